@@ -1,0 +1,12 @@
+pub mod Integers
+pub mod Sums
+pub mod Signs
+pub mod Orthogonal
+pub mod Butterflies
+pub mod Choice
+pub mod Parities
+pub mod Drift
+pub mod Locals
+pub mod Tables
+pub mod Sizes
+pub mod Scans

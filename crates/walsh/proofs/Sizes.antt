@@ -1,0 +1,88 @@
+-- How large the numbers of the transform are, and that its steps are the butterflies.
+use mathlib.Core.Path.{_≡_, refl, sym, _∙_, ap, ap₂}
+use mathlib.Core.List.{List}
+use Prim.Native.Nat.{ℕ, zero, suc, _+_, _*_, _-_, _<_, _≤_}
+use native.Mathlib.Decide.{decLt}
+use native.Mathlib.Nat.{le-trans, suc-mul}
+use native.Mathlib.Omega.{arith}
+use lib.Dec.{T, leb, leb→le}
+use lib.IntN.{ℤ, pos, natAbs, _+ℤ_, _-ℤ_}
+use lib.ListN.{length, List·getD-eq-default}
+use Rattle.walsh.specs.Lists.{tab, at}
+use Rattle.walsh.specs.Sums.{total}
+use Rattle.walsh.specs.Words.{minus, signed, corr, correlationsOf}
+use Rattle.walsh.specs.Transform.{butterfly, butterflies, stepOf, Within}
+use Rattle.walsh.proofs.Integers.{abs-add, abs-sub, abs-signed}
+use Rattle.walsh.proofs.Sums.{abs-sum}
+use Rattle.walsh.proofs.Butterflies.{butterfly-low, butterfly-high, transform}
+use Rattle.walsh.proofs.Tables.{tab-length, tab-at, is-tab}
+
+pub upto : {b : ℕ} (B : ℕ) {x : List ℤ} → Within b x → T (leb b B) → Within B x
+upto {b} B w t = record { within = λ i. le-trans (w .within i) (leb→le b B t) }
+
+-- by which half of the places i is in
+butterfly-cases : (P : ℤ → Type 0) (x : ℕ → ℤ) (i : ℕ) → (i < 32 → P (x (2 * i) +ℤ x (2 * i + 1))) → ((j : ℕ) → i ≡ j + 32 → P (x (2 * j + 1) -ℤ x (2 * j))) → P (butterfly x i)
+butterfly-cases P x i f g = by (decLt i 32)
+  where
+    by : Dec (i < 32) → P (butterfly x i)
+    by (yes l) = rw (butterfly-low x i l) (f l)
+    by (no n) =
+        let e : i ≡ i - 32 + 32 = omega arith in
+        rw (e, butterfly-high x (i - 32)) (g (i - 32) e)
+
+tab-within : (b : ℕ) (f : ℕ → ℤ) → ((i : ℕ) → natAbs (f i) ≤ b) → Within b (tab f 64)
+tab-within b f h = record { within = λ i. by i (decLt i 64) }
+  where
+    by : (i : ℕ) → Dec (i < 64) → natAbs (at (tab f 64) i) ≤ b
+    by i (yes l) = rw (tab-at f (pos 0) 64 i l) (h i)
+    by i (no n) =
+        omega (arith, ap natAbs (List·getD-eq-default (tab f 64) (pos 0) {n = i} (let e : length (tab f 64) ≤ i = omega (arith, tab-length f 64) in e)))
+
+-- a step at most doubles the magnitudes
+pub step-within : {b : ℕ} {x r : List ℤ} → Within b x → r ≡ stepOf x → Within (b + b) r
+unfolding stepOf
+step-within {b} {x} w e =
+    rw e
+    (tab-within (b + b) (butterfly (at x)) (λ i.
+    butterfly-cases (λ z. natAbs z ≤ b + b) (at x) i
+    (λ l. omega (arith, abs-add (at x (2 * i)) (at x (2 * i + 1)), w .within (2 * i), w .within (2 * i + 1)))
+    (λ j q. omega (arith, abs-sub (at x (2 * j + 1)) (at x (2 * j)), w .within (2 * j), w .within (2 * j + 1)))))
+
+total-within : (n b : ℕ) (f : ℕ → ℕ) → ((t : ℕ) → f t ≤ b) → total n f ≤ n * b
+unfolding total
+total-within zero b f h = omega arith
+total-within (suc n) b f h = omega (arith, total-within n b f h, h n, suc-mul n b)
+
+pub correlations-within : {b : ℕ} (x : List ℤ) → Within b x → Within (64 * b) (correlationsOf (at x))
+unfolding correlationsOf corr
+correlations-within {b} x w =
+    tab-within (64 * b) (corr (at x)) (λ c.
+    omega (
+      arith,
+      abs-sum 64 (λ t. signed (minus c t) (at x t)),
+      total-within 64 b (λ t. natAbs (signed (minus c t) (at x t))) (λ t. omega (arith, abs-signed (minus c t) (at x t), w .within t)),
+    ))
+
+-- ---- six steps
+
+unfoldable pub steps : ℕ → List ℤ → List ℤ
+steps zero x = x
+steps (suc k) x = steps k (stepOf x)
+
+butterfly-ext : (x y : ℕ → ℤ) → ((i : ℕ) → i < 64 → x i ≡ y i) → (i : ℕ) → i < 64 → butterfly x i ≡ butterfly y i
+butterfly-ext x y h i l =
+    butterfly-cases (λ z. z ≡ butterfly y i) x i
+    (λ g. ap₂ (λ (a b : ℤ). a +ℤ b) (h (2 * i) (omega arith)) (h (2 * i + 1) (omega arith)) ∙ sym (butterfly-low y i g))
+    (λ j e. ap₂ (λ (a b : ℤ). a -ℤ b) (h (2 * j + 1) (omega arith)) (h (2 * j) (omega arith)) ∙ sym (butterfly-high y j) ∙ ap (butterfly y) (sym e))
+
+steps-butterflies : (k : ℕ) (x : List ℤ) (f : ℕ → ℤ) → ((i : ℕ) → i < 64 → at x i ≡ f i) → (i : ℕ) → i < 64 → at (steps k x) i ≡ butterflies k f i
+unfolding steps stepOf butterflies
+steps-butterflies zero x f h i l = h i l
+steps-butterflies (suc k) x f h i l =
+    steps-butterflies k (stepOf x) (butterfly f) (λ j g. tab-at (butterfly (at x)) (pos 0) 64 j g ∙ butterfly-ext (at x) f h j g) i l
+
+pub six-steps : (x : List ℤ) → steps 6 x ≡ correlationsOf (at x)
+unfolding steps stepOf correlationsOf
+six-steps x =
+    is-tab (corr (at x)) (pos 0) 64 (steps 6 x) (tab-length _ 64)
+    (λ c l. steps-butterflies 6 x (at x) (λ i g. refl) c l ∙ transform .six-steps (at x) c l)

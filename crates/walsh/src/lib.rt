@@ -1,0 +1,123 @@
+// Walsh words, the fast transform, and the decision on one character from its 64 counts.
+ghost use mathlib.Core.Path.{_≡_};
+ghost use Prim.Native.Nat.{_<_, _≤_};
+ghost use lib.IntN.{natAbs};
+ghost use Rattle.walsh.specs.Lists.{at};
+ghost use Rattle.walsh.specs.Words.{minus, corr, correlationsOf};
+ghost use Rattle.walsh.specs.Transform.{stepOf, Within};
+ghost use Rattle.walsh.specs.Decision.{negative, codeOf, decision};
+
+pub mod laws;
+
+// A decided character: its 7-bit code, and document 01's lead, the decision's margin over its nearest rival.
+pub struct Character {
+    pub code: u8,
+    pub lead: u32,
+}
+
+// Whether a Walsh word has a minus at t; both count by their lowest six bits.
+pub fn is_minus(word: u64, t: u64) -> bool
+    ensures { λ r. ⌜ r ≡ minus word t ⌝ }
+{
+    u64::count_ones(word & (!t & 63)) % 2 == 1
+}
+
+// The 64 correlations of one character.
+pub fn correlations(counts: [i8; 64]) -> [i32; 64]
+    ensures { λ r. ⌜ r ≡ correlationsOf (at counts) ⌝ }
+{
+    let x = widened(counts);
+    let x = step(x);
+    let x = step(x);
+    let x = step(x);
+    let x = step(x);
+    let x = step(x);
+    step(x)
+}
+
+// The decision on one character.
+pub fn decide(counts: [i8; 64]) -> Character
+    ensures { λ r. ⌜ r ≡ decision (corr (at counts)) ⌝ }
+{
+    lead_finder(correlations(counts))
+}
+
+fn wide(count: i8) -> i32
+    ensures { λ r. ⌜ r ≡ count ⌝ }
+{
+    count as i32
+}
+
+fn widened(counts: [i8; 64]) -> [i32; 64]
+    ensures { λ r. ⌜ r ≡ counts ⌝ }
+{
+    let mut x = [0i32; 64];
+    let mut i: usize = 0;
+    while i < 64 {
+        x[i] = wide(counts[i]);
+        i += 1;
+    }
+    x
+}
+
+// One step of the transform, the same for all six: the constant geometry form.
+fn step(x: [i32; 64]) -> [i32; 64]
+    requires { ⌜ Within 4096 x ⌝ }
+    ensures { λ r. ⌜ r ≡ stepOf x ⌝ }
+{
+    let mut y = [0i32; 64];
+    let mut i: usize = 0;
+    while i < 32 {
+        let first = x[2 * i];
+        let second = x[2 * i + 1];
+        y[i] = first + second;
+        y[i + 32] = second - first;
+        i += 1;
+    }
+    y
+}
+
+fn magnitude(v: i32) -> u32
+    requires { ⌜ natAbs v ≤ 8192 ⌝ }
+    ensures { λ r. ⌜ r ≡ natAbs v ⌝ }
+{
+    if v < 0 { (-v) as u32 } else { v as u32 }
+}
+
+fn code_of(word: usize, correlation: i32) -> u8
+    requires { ⌜ word < 64 ⌝ }
+    ensures { λ r. ⌜ r ≡ codeOf word (negative correlation) ⌝ }
+{
+    if correlation < 0 {
+        (word + 64) as u8
+    } else {
+        word as u8
+    }
+}
+
+fn lead_finder(correlations: [i32; 64]) -> Character
+    requires { ⌜ Within 8192 correlations ⌝ }
+    ensures { λ r. ⌜ r ≡ decision (at correlations) ⌝ }
+{
+    let mut word: usize = 0;
+    let mut greatest = magnitude(correlations[0]);
+    let mut rival: u32 = 0;
+    let mut i: usize = 1;
+    while i < 64 {
+        let m = magnitude(correlations[i]);
+        if greatest < m {
+            rival = greatest;
+            greatest = m;
+            word = i;
+        } else {
+            if rival < m {
+                rival = m;
+            }
+        }
+        i += 1;
+    }
+    Character {
+        code: code_of(word, correlations[word]),
+        lead: greatest - rival,
+    }
+}
