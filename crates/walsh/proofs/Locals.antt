@@ -81,3 +81,8 @@ module _ (a b : ℤ) (ha : natAbs a ≤ 4096) (hb : natAbs b ≤ 4096) where
 
   pub difference-reads : toZ w32 (ofZ w32 (toZ w32 (ofZ w32 a) -ℤ toZ w32 (ofZ w32 b))) ≡ a -ℤ b
   difference-reads = toZ-ofZ difference-fits ∙ ap₂ (λ (x y : ℤ). x -ℤ y) reads-a reads-b
+
+-- in either order
+pub differences-fit : (a b : ℤ) → natAbs a ≤ 4096 → natAbs b ≤ 4096
+    → SFits w32 (toZ w32 (ofZ w32 b) -ℤ toZ w32 (ofZ w32 a)) × SFits w32 (toZ w32 (ofZ w32 a) -ℤ toZ w32 (ofZ w32 b))
+differences-fit a b ha hb = (difference-fits b a hb ha, difference-fits a b ha hb)
