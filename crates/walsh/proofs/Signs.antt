@@ -1,6 +1,6 @@
 -- The sign of a word, digit by digit, lowest first; and the count of ones gives that sign.
 use mathlib.Core.Path.{_≡_, refl, sym, _∙_, ap, ap₂}
-use mathlib.Core.Bool.{Bool, true, false, not, _&&_}
+use mathlib.Core.Bool.{Bool, true, false, not, _&&_, and-true, and-false}
 use mathlib.Core.Logic.{_⊎_, inl, inr, ⊎-elim}
 use Prim.Native.Nat.{ℕ, zero, suc, _+_, _*_, _-_, _<_, _^_, _/_, _%_, min}
 use native.Mathlib.Nat.{pow-suc}
@@ -30,14 +30,6 @@ odd-zero n e = ap (λ (d : ℕ). eqb d 1) e
 
 pub odd-one : (n : ℕ) → n % 2 ≡ 1 → odd n ≡ true
 odd-one n e = ap (λ (d : ℕ). eqb d 1) e
-
-and-true : (b : Bool) → (b && true) ≡ b
-and-true true = refl
-and-true false = refl
-
-and-false : (b : Bool) → (b && false) ≡ false
-and-false true = refl
-and-false false = refl
 
 pub minus-even : (k c t : ℕ) → minusIn (suc k) c (2 * t) ≡ turned (odd c) (minusIn k (c / 2) t)
 unfolding minusIn

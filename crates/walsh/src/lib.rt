@@ -15,14 +15,14 @@ pub struct Character {
     pub lead: u32,
 }
 
-// Whether a Walsh word has a minus at t; both count by their lowest six bits.
+// Whether a Walsh word has a minus at t; both are taken by their lowest six bits.
 pub fn is_minus(word: u64, t: u64) -> bool
     ensures { λ r. ⌜ r ≡ minus word t ⌝ }
 {
     u64::count_ones(word & (!t & 63)) % 2 == 1
 }
 
-// The 64 correlations of one character.
+// The 64 correlations of one character, from its counts.
 pub fn correlations(counts: [i8; 64]) -> [i32; 64]
     ensures { λ r. ⌜ r ≡ correlationsOf (at counts) ⌝ }
 {
@@ -35,7 +35,7 @@ pub fn correlations(counts: [i8; 64]) -> [i32; 64]
     step(x)
 }
 
-// The decision on one character.
+// The decision on one character, from its counts.
 pub fn decide(counts: [i8; 64]) -> Character
     ensures { λ r. ⌜ r ≡ decision (corr (at counts)) ⌝ }
 {
@@ -60,7 +60,8 @@ fn widened(counts: [i8; 64]) -> [i32; 64]
     x
 }
 
-// One step of the transform, the same for all six: the constant geometry form.
+// One step of the transform, the same for all six: the constant geometry form. A count is at most
+// 128 in magnitude and a step at most doubles that, so all six stay within 64 * 128.
 fn step(x: [i32; 64]) -> [i32; 64]
     requires { ⌜ Within 4096 x ⌝ }
     ensures { λ r. ⌜ r ≡ stepOf x ⌝ }
@@ -109,10 +110,8 @@ fn lead_finder(correlations: [i32; 64]) -> Character
             rival = greatest;
             greatest = m;
             word = i;
-        } else {
-            if rival < m {
-                rival = m;
-            }
+        } else if rival < m {
+            rival = m;
         }
         i += 1;
     }

@@ -39,10 +39,14 @@ fn print(c: Character) {
     io::write_all(STDOUT_FILENO, b"\n");
 }
 
-fn main() {
+fn print_every_code() {
     for code in 0..128 {
         print(walsh::decide(sent(code)));
     }
+}
+
+fn main() {
+    print_every_code();
     print(walsh::decide(evens(15, -1)));
     print(walsh::decide(evens(16, -1)));
     print(walsh::decide(evens(31, 0)));
