@@ -8,7 +8,7 @@ use native.Mathlib.Omega.{arith}
 use lib.Dec.{ltb, ltb→lt, nltb→le}
 use lib.IntN.{ℤ, natAbs}
 use borrow.Author.Tests.{lt-ltb, le-ltb, eq-eqb, ne-eqb}
-use Rattle.walsh.specs.Decision.{better, best, rival, negative, codeOf, decisionFor, decision}
+use Rattle.walsh.specs.Decision.{better, best, rival, leadOf, negative, codeOf, decisionFor, decision}
 use Rattle.walsh.specs.Laws.{Chosen, Decision}
 use Rattle.walsh.specs.declared.Character.{Character}
 use Rattle.walsh.proofs.Integers.{cond-cases}
@@ -137,7 +137,7 @@ module _ (r : ℕ → ℤ) where
   -- ---- the decision
 
   best-chosen : (w : ℕ) → Best 64 w → Chosen r (decisionFor r w) w
-  unfolding decisionFor
+  unfolding decisionFor leadOf
   best-chosen w b =
       let least : rival r w 64 ≤ natAbs (r w) = rival-below w 64 (natAbs (r w)) (λ k l ne. b .greatest k l) in
       let a = rival-attained w in
@@ -151,7 +151,7 @@ module _ (r : ℕ → ℤ) where
       }
 
   chosen-for : (d : Character) (w : ℕ) → Chosen r d w → d ≡ decisionFor r w
-  unfolding decisionFor
+  unfolding decisionFor leadOf
   chosen-for d w h =
       let a = h .attained in
       same-character (h .code)

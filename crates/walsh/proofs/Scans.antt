@@ -4,7 +4,7 @@ use Prim.Native.Nat.{ℕ, zero, suc, _+_, _-_, _<_, _≤_, max}
 use native.Mathlib.Numerals.{add-one}
 use native.Mathlib.Omega.{arith}
 use lib.IntN.{ℤ, natAbs}
-use Rattle.walsh.specs.Decision.{best, rival, negative, codeOf, decisionFor, decision}
+use Rattle.walsh.specs.Decision.{best, rival, leadOf, negative, codeOf, decisionFor, decision}
 use Rattle.walsh.specs.declared.Character.{Character}
 use Rattle.walsh.proofs.Choice.{Best, best-is, better-new, better-old, rival-own, rival-other, rival-above, rival-below, same-character}
 
@@ -61,5 +61,5 @@ module _ (r : ℕ → ℤ) where
     scan-ordered = omega (arith, s .is-second, s .is-greatest, rival-below r w 64 (natAbs (r w)) (λ k l ne. whole .greatest k l))
 
     pub scan-decision : (c : ℕ) → c ≡ codeOf w (negative (r w)) → _≡_ {A = Character} (record { code = c; lead = g - v }) (decision r)
-    unfolding decision decisionFor
+    unfolding decision decisionFor leadOf
     scan-decision c e = same-character e (ap₂ (λ (a b : ℕ). a - b) (s .is-greatest) (s .is-second)) ∙ ap (decisionFor r) (s .is-best)

@@ -19,6 +19,10 @@ unfoldable pub rival : (ℕ → ℤ) → ℕ → ℕ → ℕ
 rival r w zero = 0
 rival r w (suc n) = cond (eqb n w) (rival r w n) (max (rival r w n) (natAbs (r n)))
 
+-- document 01's lead of word w: its magnitude minus the largest among the other 63 words
+unfoldable pub leadOf : (ℕ → ℤ) → ℕ → ℕ
+leadOf r w = natAbs (r w) - rival r w 64
+
 abbrev pub negative : ℤ → Bool
 negative (pos n) = false
 negative (negsuc n) = true
@@ -27,9 +31,10 @@ negative (negsuc n) = true
 abbrev pub codeOf : ℕ → Bool → ℕ
 codeOf word turned = cond turned (word + 64) word
 
--- the decision for word w: its code, and document 01's lead, the margin over its nearest rival
+-- word w as the decision: turned if its correlation is negative
 unfoldable pub decisionFor : (ℕ → ℤ) → ℕ → Character
-decisionFor r w = record { code = codeOf w (negative (r w)); lead = natAbs (r w) - rival r w 64 }
+decisionFor r w = record { code = codeOf w (negative (r w)); lead = leadOf r w }
 
+-- the decision is for the best of the 64 words
 unfoldable pub decision : (ℕ → ℤ) → Character
 decision r = decisionFor r (best r 64)
