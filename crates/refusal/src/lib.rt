@@ -22,9 +22,9 @@ pub const TONE: u8 = 8;
 pub const ROOM: u8 = 9;
 // The air or the far end: a character's lead is below the set lead.
 pub const UNCLEAR: u8 = 10;
-// The far end: a message has a 0 inside, or a whole block of them at its end.
+// The air or the far end: a message has a 0 before its last nonzero code, or at least a block's count of them after it.
 pub const ZERO: u8 = 11;
-// The far end: a message's text is too long.
+// The air or the far end: a message's text is too long.
 pub const TOO_LONG: u8 = 12;
 
 // Number, place and lead; the lead is 0 but for UNCLEAR.
