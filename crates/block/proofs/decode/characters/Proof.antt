@@ -1,0 +1,83 @@
+use mathlib.Core.Path.{_≡_, _∙_, ap}
+use mathlib.Core.List.{List}
+use Prim.Native.Nat.{ℕ, _≤_, _-_}
+use native.Mathlib.Omega.{arith}
+use lib.IntN.{ℤ}
+use lib.ListN.{replicate}
+use borrow.Author.Needs.{needs}
+use Rattle.walsh.specs.Lists.{at}
+use Rattle.walsh.specs.Words.{corr}
+use Rattle.walsh.specs.Decision.{decision}
+use Rattle.block.specs.Lists.{filled}
+use Rattle.block.specs.Decoding.{countIn, none, characterAt, charactersOf}
+use Rattle.block.proofs.Lists.{filled-start, filled-set}
+use Rattle.block.proofs.Decisions.{table-decision}
+use Rattle.block.proofs.decode.characters.Statement.{statement}
+use Rattle.block.proofs.decode.characters.Tie as tie
+
+abbrev Inv-loop : tie.InvT-loop
+Inv-loop mode tones symbols characters₀ q₀ characters q =
+    (q ≤ mode) × (characters ≡ filled (characterAt mode tones) q (replicate 8 none))
+
+abbrev μ-loop : tie.MeasureT-loop
+μ-loop mode tones symbols characters₀ q₀ characters q = mode - q
+
+symbols-requires : tie.Need-symbols-requires Inv-loop μ-loop
+symbols-requires c κs = search needs
+
+loop-holds : tie.Need-loop-holds Inv-loop μ-loop
+loop-holds c = (search needs, filled-start _ _)
+
+counts-requires : tie.Need-counts-requires Inv-loop μ-loop
+counts-requires c κs = search needs
+
+decide-requires : tie.Need-decide-requires Inv-loop μ-loop
+decide-requires c κs = search needs
+
+mul-characters : tie.Need-mul-characters Inv-loop μ-loop
+mul-characters c = search needs
+
+array-set-from-characters : tie.Need-array-set-from-characters Inv-loop μ-loop
+array-set-from-characters c = search needs
+
+add-q : tie.Need-add-q Inv-loop μ-loop
+add-q c = search needs
+
+loop-less : tie.Need-loop-less Inv-loop μ-loop
+loop-less c = search needs
+
+loop-again : tie.Need-loop-again Inv-loop μ-loop
+unfolding characterAt
+loop-again c =
+    let l = c .before .before .before .before in
+    let s = l .before .before .before in
+    let here : c .decide .result ≡ characterAt (s .args .mode) (s .args .tones .now) (l .loop .q) =
+    c .decide .ensures
+    ∙ ap (λ (x : List ℤ). decision (corr (at x))) (c .before .counts .ensures)
+    ∙ table-decision (countIn (s .args .mode) (l .before .symbols .result) (l .loop .q))
+    ∙ ap (λ (x : List ℕ). decision (corr (countIn (s .args .mode) x (l .loop .q)))) (l .before .symbols .ensures) in
+    (search needs, filled-set none _ (l .loop .q) _ _ _ (omega arith) (l .loop .inv .1) here)
+
+returns : tie.Need-returns Inv-loop μ-loop
+unfolding charactersOf
+returns c =
+    let l = c .before in
+    let e : l .loop .q ≡ l .before .before .before .args .mode = omega arith in
+    rw e at (l .loop .inv .1)
+
+pub characters-spec : {M : Type 1} → statement M
+characters-spec =
+    tie.close
+    (tie.spec
+    Inv-loop
+    μ-loop
+    symbols-requires
+    loop-holds
+    counts-requires
+    decide-requires
+    mul-characters
+    array-set-from-characters
+    add-q
+    loop-less
+    loop-again
+    returns)

@@ -1,0 +1,74 @@
+use mathlib.Core.Path.{_≡_, sym, _∙_}
+use mathlib.Core.Bool.{true, false}
+use mathlib.Core.Logic.{⊎-elim}
+use Prim.Native.Nat.{_≤_, _-_}
+use lib.ListN.{length}
+use borrow.Author.Needs.{needs}
+use borrow.Author.Tests.{le-leb, lt-leb}
+use Rattle.block.specs.Lists.{scan}
+use Rattle.block.specs.Decoding.{badTone, firstBadTone}
+use Rattle.block.proofs.Lists.{scan-start, scan-hit, scan-miss, scan-end}
+use Rattle.block.proofs.decode.first_bad_tone.Statement.{statement}
+use Rattle.block.proofs.decode.first_bad_tone.Tie as tie
+
+abbrev Inv-loop : tie.InvT-loop
+Inv-loop mode tones limit t₀ t =
+    (t ≤ length tones) × (scan (badTone mode tones) t (length tones - t) ≡ firstBadTone mode tones)
+
+abbrev μ-loop : tie.MeasureT-loop
+μ-loop mode tones limit t₀ t = length tones - t
+
+tone-count-requires : tie.Need-tone-count-requires Inv-loop μ-loop
+tone-count-requires c κs = search needs
+
+loop-holds : tie.Need-loop-holds Inv-loop μ-loop
+unfolding firstBadTone
+loop-holds c = (search needs, scan-start _ _)
+
+mul-tone : tie.Need-mul-tone Inv-loop μ-loop
+mul-tone c = search needs
+
+shared-slice-read-tone : tie.Need-shared-slice-read-tone Inv-loop μ-loop
+shared-slice-read-tone c = search needs
+
+returns : tie.Need-returns Inv-loop μ-loop
+returns c =
+    let l = c .before .before .before .before in
+    let s = l .before .before .before in
+    let here : badTone (s .args .mode) (s .args .tones .now) (l .loop .t) ≡ true =
+    rw (← (l .before .tone-count .ensures), le-leb _ _ (c .before .if1 .taken), c .if2 .taken) in
+    sym (scan-hit _ (l .loop .t) _ (c .before .before .before .loop-test .taken) here) ∙ l .loop .inv .1
+
+add-t : tie.Need-add-t Inv-loop μ-loop
+add-t c = search needs
+
+loop-less : tie.Need-loop-less Inv-loop μ-loop
+loop-less c = search needs
+
+loop-again : tie.Need-loop-again Inv-loop μ-loop
+loop-again c =
+    let l = c .before .before .before in
+    let s = l .before .before .before in
+    let here : badTone (s .args .mode) (s .args .tones .now) (l .loop .t) ≡ false =
+    rw (← (l .before .tone-count .ensures))
+    (⊎-elim (λ w. rw (le-leb _ _ (w .0 .taken), w .1 .left)) (λ w. rw (lt-leb _ _ (w .left))) (c .if1 .came)) in
+    (search needs, scan-miss _ (l .loop .t) _ (c .before .before .loop-test .taken) here ∙ l .loop .inv .1)
+
+returns-2 : tie.Need-returns-2 Inv-loop μ-loop
+returns-2 c = sym (scan-end _ (c .before .loop .t) _ (c .loop-test .left)) ∙ c .before .loop .inv .1
+
+pub first-bad-tone-spec : {M : Type 1} → statement M
+first-bad-tone-spec =
+    tie.close
+    (tie.spec
+    Inv-loop
+    μ-loop
+    tone-count-requires
+    loop-holds
+    mul-tone
+    shared-slice-read-tone
+    returns
+    add-t
+    loop-less
+    loop-again
+    returns-2)

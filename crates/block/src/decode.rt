@@ -1,0 +1,103 @@
+// The parts of decoding a block.
+use super::MISSING;
+use super::gray;
+use super::interleaver;
+use walsh::Character;
+ghost use mathlib.Core.Path.{_≡_};
+ghost use mathlib.Core.Logic.{_⊎_};
+ghost use Prim.Native.Nat.{_<_, _≤_, _^_};
+ghost use lib.ListN.{length};
+ghost use Rattle.block.specs.Lists.{filled};
+ghost use Rattle.block.specs.Decoding.{missingMark, HasTones, symbolsOf, heardSymbol, charactersOf, codeIn, firstUnclear, firstBadTone};
+
+// The count of tones of a mode, 2^mode.
+pub fn tone_count(mode: usize) -> u16
+    requires { ⌜ mode ≤ 8 ⌝ }
+    ensures { λ r. ⌜ r ≡ 2 ^ mode ⌝ }
+{
+    1u16 << mode
+}
+
+// The lowest place of a tone that is neither one of the mode's nor missing, else the count of tones.
+pub fn first_bad_tone(mode: usize, tones: &[u16]) -> usize
+    requires { ⌜ mode ≤ 8 ⌝ }
+    ensures { λ r. ⌜ r ≡ firstBadTone mode (now (tones .entry)) ⌝ }
+{
+    let limit = tone_count(mode);
+    let mut t: usize = 0;
+    while t < tones.len() {
+        let tone = tones[t];
+        if limit <= tone && tone != MISSING {
+            return t;
+        }
+        t += 1;
+    }
+    t
+}
+
+fn heard_symbol(tone: u16) -> u16
+    requires { ⌜ (tone < 256) ⊎ (tone ≡ missingMark) ⌝ }
+    ensures { λ r. ⌜ r ≡ heardSymbol tone ⌝ }
+{
+    if tone == MISSING {
+        return MISSING;
+    }
+    gray::symbol_of(tone)
+}
+
+fn symbols(tones: &[u16]) -> [u16; 64]
+    requires { ⌜ HasTones 256 (now tones) ⌝ }
+    ensures { λ r. ⌜ r ≡ symbolsOf (now (tones .entry)) ⌝ }
+{
+    let mut symbols = [0u16; 64];
+    let mut t: usize = 0;
+    while t < 64 {
+        symbols[t] = heard_symbol(tones[t]);
+        t += 1;
+    }
+    symbols
+}
+
+// The decisions on the characters of a block.
+pub fn characters(mode: usize, tones: &[u16]) -> [Character; 8]
+    requires { ⌜ (mode ≤ 8) × HasTones 256 (now tones) ⌝ }
+    ensures { λ r. ⌜ r ≡ charactersOf mode (now (tones .entry)) ⌝ }
+{
+    let symbols = symbols(tones);
+    let mut characters = [Character { code: 0, lead: 0 }; 8];
+    let mut q: usize = 0;
+    while q < mode {
+        characters[q] = walsh::decide(interleaver::counts(mode, q, &symbols));
+        q += 1;
+    }
+    characters
+}
+
+// The lowest of the mode's characters whose lead is under least_lead, else mode.
+pub fn first_unclear(mode: usize, least_lead: u32, characters: [Character; 8]) -> usize
+    requires { ⌜ mode ≤ 8 ⌝ }
+    ensures { λ r. ⌜ r ≡ firstUnclear mode «least_lead» characters ⌝ }
+{
+    let mut q: usize = 0;
+    while q < mode {
+        let character = characters[q];
+        if character.lead < least_lead {
+            return q;
+        }
+        q += 1;
+    }
+    q
+}
+
+// The first count codes of the characters, over the front of codes.
+pub fn put_codes(count: usize, characters: [Character; 8], codes: &mut [u8])
+    requires { ⌜ (count ≤ 8) × (count ≤ length (now codes)) ⌝ }
+    ensures { λ _. ⌜ now (codes .exit) ≡ filled (codeIn characters) count (now (codes .entry)) ⌝ }
+{
+    let mut q: usize = 0;
+    while q < count {
+        let character = characters[q];
+        codes[q] = character.code;
+        q += 1;
+    }
+}
