@@ -7,7 +7,7 @@ use Prim.Native.Nat.{ℕ, zero, suc, _+_, _*_, _<_, _≤_, _^_}
 use native.Mathlib.Decide.{decLt}
 use native.Mathlib.Omega.{arith}
 use borrow.Author.Tests.{eq-eqb}
-use lib.Dec.{ltb}
+use lib.Dec.{ltb, eqb}
 use lib.ListN.{length, replicate}
 use Rattle.walsh.specs.Sums.{total}
 use Rattle.walsh.specs.Laws.{Kept}
@@ -19,7 +19,7 @@ use Rattle.block.specs.Lists.{num, filled}
 use Rattle.block.specs.Chain.{tonesOf}
 use Rattle.block.specs.Encoding.{encodeBlock}
 use Rattle.block.specs.Decoding.{HasTones, none, symbolsOf, countIn, characterAt, charactersOf, codeIn, leadIn, firstUnclear, decodeBlock, decodedInto}
-use Rattle.block.specs.Demand.{flag, isMissing, missingIn, replacedIn, IsText, IsSet, Gives, RefusesAsUnclear, Demand3}
+use Rattle.block.specs.Demand.{flag, isMissing, isReplaced, missingIn, replacedIn, IsText, IsSet, Gives, RefusesAsUnclear, Demand3}
 use Rattle.block.specs.Laws.{RoundTrip}
 use Rattle.block.proofs.Lists.{filled-ext}
 use Rattle.block.proofs.Ranges.{is-mode, text-in-range}
@@ -74,6 +74,24 @@ none-replaced tones = total-zero (length tones) _ (λ t l. rw (eq-eqb (num tones
 
 -- ---- the demand
 
+-- no place is both missing and replaced
+places-counted : (sent heard : List ℕ) (n : ℕ) → total n (λ t. flag (isReplaced sent heard t)) + total n (λ t. flag (isMissing heard t)) ≤ n
+unfolding total
+places-counted sent heard zero = omega arith
+places-counted sent heard (suc n) =
+    omega (arith, places-counted sent heard n, by (ltb n (length sent)) (isMissing heard n) (eqb (num heard n) (num sent n)))
+  where
+    by : (p u s : Bool) → flag (p && (not u && not s)) + flag u ≤ 1
+    by true true s = omega arith
+    by true false true = omega arith
+    by true false false = omega arith
+    by false true s = omega arith
+    by false false s = omega arith
+
+damage-places : (sent heard : List ℕ) → length heard ≡ 64 → replacedIn sent heard + missingIn heard ≤ 64
+unfolding replacedIn missingIn
+damage-places sent heard n = omega (arith, places-counted sent heard (length heard))
+
 module _ (b m : ℕ) (text heard codes : List ℕ) (s : IsSet b m) (is-text : IsText b text) (w : HasTones (2 ^ b) heard) (h : b ≤ length codes) where
   pub same-text : m + 2 * missingIn heard + 4 * replacedIn (tonesOf b text) heard ≤ 64
       → Gives b text (decodeBlock b m heard (length codes)) codes (decodedInto b m heard codes)
@@ -116,6 +134,7 @@ demand3 = record {
         accepted = sent;
         sent = tones-written b text tones sent;
         heard = sent-text b m text first (c .settings) (c .codes) (c .room-first);
+        places = damage-places (tonesOf b text) heard (c .damaged .count);
         same = same-text b m text heard second (c .settings) (c .codes) (c .damaged) (c .room-second);
         no-other = no-other-text b m text heard second (c .settings) (c .codes) (c .damaged) (c .room-second);
       };

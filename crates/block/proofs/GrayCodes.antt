@@ -11,6 +11,8 @@ use lib.Bits.{xor-lt, xor-shr, xor-add-and}
 use lib.Dec.{T, ltb, eqb, eqb→eq}
 use lib.ListN.{length, getD}
 use lib.Pow.{pow-mono}
+use Rattle.walsh.specs.Lists.{tab}
+use Rattle.walsh.proofs.Tables.{is-tab}
 use Rattle.block.specs.Chain.{gray}
 use Rattle.block.specs.Decoding.{symbolOf}
 use Rattle.block.specs.Laws.{GrayCode}
@@ -101,9 +103,12 @@ gray-code = record {
 abbrev pub entry : ℕ → ℕ → Bool
 entry g s = ltb s 256 && eqb (gray s) g
 
-pub table-symbol : (table : List ℕ) → T (every entry 0 table) → (g : ℕ) → g < length table → getD table g 0 ≡ symbolOf g
+table-symbol : (table : List ℕ) → T (every entry 0 table) → (g : ℕ) → g < length table → getD table g 0 ≡ symbolOf g
 table-symbol table t g h = by (ltb (getD table g 0) 256) refl (every-at entry table t g h)
   where
     by : (b : Bool) → ltb (getD table g 0) 256 ≡ b → T (b && eqb (gray (getD table g 0)) g) → getD table g 0 ≡ symbolOf g
     by true l e = sym (symbol-found g (getD table g 0) (ltb-true (getD table g 0) 256 l) (eqb→eq (gray (getD table g 0)) g e))
     by false l e = absurd e
+
+pub symbol-table : (table : List ℕ) → length table ≡ 256 → T (every entry 0 table) → table ≡ tab symbolOf 256
+symbol-table table n t = is-tab symbolOf 0 256 table n (λ g h. table-symbol table t g (omega arith))

@@ -81,6 +81,7 @@ pub record Kept (b m : ℕ) (text : List ℕ) (t : Trial) (tones tones′ first 
   pub accepted : t .encoded ≡ encoded.Tones 64
   pub sent : tones′ ≡ tonesOf b text ++ drop 64 tones
   pub heard : Gives b text (t .first) first first′
+  pub places : t .replaced + t .missing ≤ 64
   pub same : m + 2 * t .missing + 4 * t .replaced ≤ 64 → Gives b text (t .second) second second′
   pub no-other : 2 * t .missing + 4 * t .replaced < 64 + m → Gives b text (t .second) second second′ ⊎ RefusesAsUnclear b m (t .second) second second′
 

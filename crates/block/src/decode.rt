@@ -7,8 +7,9 @@ ghost use mathlib.Core.Path.{_≡_};
 ghost use mathlib.Core.Logic.{_⊎_};
 ghost use Prim.Native.Nat.{_<_, _≤_, _^_};
 ghost use lib.ListN.{length};
+ghost use Rattle.walsh.specs.Lists.{tab};
 ghost use Rattle.block.specs.Lists.{filled};
-ghost use Rattle.block.specs.Decoding.{missingMark, HasTones, symbolsOf, heardSymbol, charactersOf, codeIn, firstUnclear, firstBadTone};
+ghost use Rattle.block.specs.Decoding.{missingMark, HasTones, symbolOf, symbolsOf, heardSymbol, charactersOf, codeIn, firstUnclear, firstBadTone};
 
 // The count of tones of a mode, 2^mode.
 pub fn tone_count(mode: usize) -> u16
@@ -35,27 +36,29 @@ pub fn first_bad_tone(mode: usize, tones: &[u16]) -> usize
     t
 }
 
-fn heard_symbol(tone: u16) -> u16
-    requires { ⌜ (tone < 256) ⊎ (tone ≡ missingMark) ⌝ }
+// A missing tone's symbol is missing too.
+fn heard_symbol(symbols: &[u16; 256], tone: u16) -> u16
+    requires { ⌜ (now symbols ≡ tab symbolOf 256) × ((tone < 256) ⊎ (tone ≡ missingMark)) ⌝ }
     ensures { λ r. ⌜ r ≡ heardSymbol tone ⌝ }
 {
     if tone == MISSING {
         return MISSING;
     }
-    gray::symbol_of(tone)
+    symbols[tone as usize]
 }
 
-fn symbols(tones: &[u16]) -> [u16; 64]
+fn heard_symbols(tones: &[u16]) -> [u16; 64]
     requires { ⌜ HasTones 256 (now tones) ⌝ }
     ensures { λ r. ⌜ r ≡ symbolsOf (now (tones .entry)) ⌝ }
 {
-    let mut symbols = [0u16; 64];
+    let symbols = gray::symbols();
+    let mut heard = [0u16; 64];
     let mut t: usize = 0;
     while t < 64 {
-        symbols[t] = heard_symbol(tones[t]);
+        heard[t] = heard_symbol(&symbols, tones[t]);
         t += 1;
     }
-    symbols
+    heard
 }
 
 // The decisions on the characters of a block.
@@ -63,7 +66,7 @@ pub fn characters(mode: usize, tones: &[u16]) -> [Character; 8]
     requires { ⌜ (mode ≤ 8) × HasTones 256 (now tones) ⌝ }
     ensures { λ r. ⌜ r ≡ charactersOf mode (now (tones .entry)) ⌝ }
 {
-    let symbols = symbols(tones);
+    let symbols = heard_symbols(tones);
     let mut characters = [Character { code: 0, lead: 0 }; 8];
     let mut q: usize = 0;
     while q < mode {

@@ -1,6 +1,6 @@
 // The Gray code: document 01, "The tone is symbol XOR (symbol shifted right by one)".
 ghost use mathlib.Core.Path.{_≡_};
-ghost use Prim.Native.Nat.{_<_};
+ghost use Rattle.walsh.specs.Lists.{tab};
 ghost use Rattle.block.specs.Chain.{gray};
 ghost use Rattle.block.specs.Decoding.{symbolOf};
 
@@ -270,9 +270,9 @@ pub fn tone_of(symbol: u16) -> u16
     symbol ^ (symbol >> 1)
 }
 
-pub fn symbol_of(tone: u16) -> u16
-    requires { ⌜ tone < 256 ⌝ }
-    ensures { λ r. ⌜ r ≡ symbolOf tone ⌝ }
+// The symbols of all tones.
+pub fn symbols() -> [u16; 256]
+    ensures { λ r. ⌜ r ≡ tab symbolOf 256 ⌝ }
 {
-    SYMBOLS[tone as usize]
+    SYMBOLS
 }

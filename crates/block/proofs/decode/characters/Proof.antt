@@ -22,8 +22,8 @@ Inv-loop mode tones symbols characters₀ q₀ characters q =
 abbrev μ-loop : tie.MeasureT-loop
 μ-loop mode tones symbols characters₀ q₀ characters q = mode - q
 
-symbols-requires : tie.Need-symbols-requires Inv-loop μ-loop
-symbols-requires c κs = search needs
+heard-symbols-requires : tie.Need-heard-symbols-requires Inv-loop μ-loop
+heard-symbols-requires c κs = search needs
 
 loop-holds : tie.Need-loop-holds Inv-loop μ-loop
 loop-holds c = (search needs, filled-start _ _)
@@ -54,8 +54,8 @@ loop-again c =
     let here : c .decide .result ≡ characterAt (s .args .mode) (s .args .tones .now) (l .loop .q) =
     c .decide .ensures
     ∙ ap (λ (x : List ℤ). decision (corr (at x))) (c .before .counts .ensures)
-    ∙ table-decision (countIn (s .args .mode) (l .before .symbols .result) (l .loop .q))
-    ∙ ap (λ (x : List ℕ). decision (corr (countIn (s .args .mode) x (l .loop .q)))) (l .before .symbols .ensures) in
+    ∙ table-decision (countIn (s .args .mode) (l .before .heard-symbols .result) (l .loop .q))
+    ∙ ap (λ (x : List ℕ). decision (corr (countIn (s .args .mode) x (l .loop .q)))) (l .before .heard-symbols .ensures) in
     (search needs, filled-set none _ (l .loop .q) _ _ _ (omega arith) (l .loop .inv .1) here)
 
 returns : tie.Need-returns Inv-loop μ-loop
@@ -71,7 +71,7 @@ characters-spec =
     (tie.spec
     Inv-loop
     μ-loop
-    symbols-requires
+    heard-symbols-requires
     loop-holds
     counts-requires
     decide-requires

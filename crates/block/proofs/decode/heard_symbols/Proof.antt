@@ -6,14 +6,17 @@ use borrow.Author.Needs.{needs}
 use Rattle.block.specs.Lists.{num, filled}
 use Rattle.block.specs.Decoding.{heardSymbol, symbolsOf}
 use Rattle.block.proofs.Lists.{filled-start, filled-set, filled-whole}
-use Rattle.block.proofs.decode.symbols.Statement.{statement}
-use Rattle.block.proofs.decode.symbols.Tie as tie
+use Rattle.block.proofs.decode.heard_symbols.Statement.{statement}
+use Rattle.block.proofs.decode.heard_symbols.Tie as tie
 
 abbrev Inv-loop : tie.InvT-loop
-Inv-loop tones symbols₀ t₀ symbols t = (t ≤ 64) × (symbols ≡ filled (λ k. heardSymbol (num tones k)) t (replicate 64 0))
+Inv-loop tones symbols heard₀ t₀ heard t = (t ≤ 64) × (heard ≡ filled (λ k. heardSymbol (num tones k)) t (replicate 64 0))
 
 abbrev μ-loop : tie.MeasureT-loop
-μ-loop tones symbols₀ t₀ symbols t = 64 - t
+μ-loop tones symbols heard₀ t₀ heard t = 64 - t
+
+symbols-requires : tie.Need-symbols-requires Inv-loop μ-loop
+symbols-requires c κs = search needs
 
 loop-holds : tie.Need-loop-holds Inv-loop μ-loop
 loop-holds c = (search needs, filled-start _ _)
@@ -25,13 +28,15 @@ shared-slice-read-heard-symbol : tie.Need-shared-slice-read-heard-symbol Inv-loo
 shared-slice-read-heard-symbol c = search needs
 
 heard-symbol-requires : tie.Need-heard-symbol-requires Inv-loop μ-loop
-heard-symbol-requires c κs = c .before .before .before .before .pre .each (c .before .before .loop .t) (c .before .loop-test .taken)
+heard-symbol-requires c κs =
+    let l = c .before .before .before in
+    (l .before .symbols .ensures, l .before .before .before .pre .each (l .loop .t) (c .before .before .loop-test .taken))
 
-mul-symbols : tie.Need-mul-symbols Inv-loop μ-loop
-mul-symbols c = search needs
+mul-heard : tie.Need-mul-heard Inv-loop μ-loop
+mul-heard c = search needs
 
-array-write-symbols : tie.Need-array-write-symbols Inv-loop μ-loop
-array-write-symbols c = search needs
+array-write-heard : tie.Need-array-write-heard Inv-loop μ-loop
+array-write-heard c = search needs
 
 add-t : tie.Need-add-t Inv-loop μ-loop
 add-t c = search needs
@@ -41,8 +46,8 @@ loop-less c = search needs
 
 loop-again : tie.Need-loop-again Inv-loop μ-loop
 loop-again c =
-    let l = c .before .before .before in
-    (search needs, filled-set 0 _ (l .loop .t) _ _ _ (c .before .before .loop-test .taken) (l .loop .inv .1) (c .heard-symbol .ensures))
+    let l = c .before .before .before .before in
+    (search needs, filled-set 0 _ (l .loop .t) _ _ _ (c .before .before .before .loop-test .taken) (l .loop .inv .1) (c .heard-symbol .ensures))
 
 returns : tie.Need-returns Inv-loop μ-loop
 unfolding symbolsOf
@@ -51,18 +56,19 @@ returns c =
     let e : l .loop .t ≡ 64 = omega arith in
     rw e at (l .loop .inv .1) ∙ filled-whole _ 64 (replicate 64 0) (omega arith)
 
-pub symbols-spec : {M : Type 1} → statement M
-symbols-spec =
+pub heard-symbols-spec : {M : Type 1} → statement M
+heard-symbols-spec =
     tie.close
     (tie.spec
     Inv-loop
     μ-loop
+    symbols-requires
     loop-holds
     mul-heard-symbol
     shared-slice-read-heard-symbol
     heard-symbol-requires
-    mul-symbols
-    array-write-symbols
+    mul-heard
+    array-write-heard
     add-t
     loop-less
     loop-again
