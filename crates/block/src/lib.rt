@@ -39,7 +39,8 @@ pub struct BlockDecoded {
 
 // Encodes the mode's codes as 64 tones at the front of tones.
 pub fn encode_block(mode: u32, codes: &[u8], tones: &mut [u16]) -> Encoded
-    ensures { λ r. ⌜ (r ≡ encodeBlock mode (now (codes .entry)) (length (now (tones .entry)))) × (now (tones .exit) ≡ encodedInto mode (now (codes .entry)) (now (tones .entry))) ⌝ }
+    ensures answer { λ r. ⌜ r ≡ encodeBlock mode (now (codes .entry)) (length (now (tones .entry))) ⌝ }
+    ensures output { λ _. ⌜ now (tones .exit) ≡ encodedInto mode (now (codes .entry)) (now (tones .entry)) ⌝ }
 {
     if !checks::is_mode(mode) {
         return Encoded::Refused(Refusal::at(refusal::MODE, 0));
@@ -61,7 +62,8 @@ pub fn encode_block(mode: u32, codes: &[u8], tones: &mut [u16]) -> Encoded
 
 // Decodes 64 tones to the mode's codes, at the front of codes.
 pub fn decode_block(mode: u32, least_lead: u32, tones: &[u16], codes: &mut [u8]) -> BlockDecoded
-    ensures { λ r. ⌜ (r ≡ decodeBlock mode «least_lead» (now (tones .entry)) (length (now (codes .entry)))) × (now (codes .exit) ≡ decodedInto mode «least_lead» (now (tones .entry)) (now (codes .entry))) ⌝ }
+    ensures answer { λ r. ⌜ r ≡ decodeBlock mode «least_lead» (now (tones .entry)) (length (now (codes .entry))) ⌝ }
+    ensures output { λ _. ⌜ now (codes .exit) ≡ decodedInto mode «least_lead» (now (tones .entry)) (now (codes .entry)) ⌝ }
 {
     let decoded = decide_block(mode, least_lead, tones, codes.len());
     let answer = decoded.answer;
