@@ -26,12 +26,13 @@ use Rattle.block.specs.Decoding.{missingMark, HasTones, symbolOf, heardS
 use Rattle.block.specs.Demand.{IsText, IsSet}
 use Rattle.block.specs.Laws.{CleanBack, Clean}
 use Rattle.block.proofs.Lists.{tab-ext}
+use Rattle.block.proofs.Xors.{turned-twice}
 use Rattle.block.proofs.GrayCodes.{gray-code, symbol-below, symbol-marked}
 use Rattle.block.proofs.Interleaving.{symbol-from-bits}
 use Rattle.block.proofs.EncodeCases.{tones-written}
 use Rattle.block.proofs.DecodeCases.{Accepted, accepted, judges, codes-written}
 use Rattle.block.proofs.Ranges.{mode-range, lead-range, in-range-tones}
-use Rattle.block.proofs.Hearings.{wordOf, signOf, sent-code, turned-twice, count-missing, count-present, count-within, heard-missing, heard-present, symbol-heard}
+use Rattle.block.proofs.Hearings.{wordOf, signOf, sent-code, count-missing, count-present, count-within, heard-missing, heard-present, symbol-heard}
 use Rattle.block.proofs.Agreement.{CleanCounts, clean-counts}
 use Rattle.block.proofs.Answers.{character-in}
 use Rattle.block.proofs.Demands.{sends}

@@ -20,6 +20,7 @@ use Rattle.block.specs.Lists.{num}
 use Rattle.block.specs.Chain.{bit, codeBit, keyBit, sentBit, symbolAt, toneAt, tonesOf}
 use Rattle.block.specs.Decoding.{missingMark, symbolOf, heardSymbol, countOf, countIn, symbolsOf}
 use Rattle.block.specs.Demand.{flag, isMissing, isReplaced, missingIn, replacedIn}
+use Rattle.block.proofs.Xors.{turned-twice}
 use Rattle.block.proofs.GrayCodes.{gray-code, gray-below}
 use Rattle.block.proofs.Interleaving.{interleaver}
 
@@ -58,11 +59,6 @@ sent-code v t = by (ltb v 64) (minus v t) (minus (v - 64) t)
         turn false = refl
 
 -- ---- one symbol
-
-pub turned-twice : (k b : Bool) → turned k (turned k b) ≡ b
-turned-twice true true = refl
-turned-twice true false = refl
-turned-twice false b = refl
 
 pub count-missing : (k : Bool) (place : ℕ) → countOf k place missingMark ≡ pos 0
 unfolding countOf

@@ -1,5 +1,6 @@
 pub mod Lists
 pub mod Tallies
+pub mod Xors
 pub mod Places
 pub mod Tabled
 pub mod Binary

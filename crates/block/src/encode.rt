@@ -2,7 +2,7 @@
 use super::gray;
 use super::interleaver;
 ghost use mathlib.Core.Path.{_≡_};
-ghost use Prim.Native.Nat.{_<_, _≤_};
+ghost use Prim.Native.Nat.{_≤_};
 ghost use lib.ListN.{length};
 ghost use Rattle.block.specs.Lists.{filled};
 ghost use Rattle.block.specs.Chain.{toneAt};

@@ -30,9 +30,5 @@ pub fn sent_bit(q: usize, code: u8, t: usize) -> bool
     requires { ⌜ (q < 8) × (t < 64) ⌝ }
     ensures { λ r. ⌜ r ≡ sentBit q code t ⌝ }
 {
-    if key_bit(q, t) {
-        !code_bit(code, t)
-    } else {
-        code_bit(code, t)
-    }
+    code_bit(code, t) != key_bit(q, t)
 }

@@ -1,19 +1,14 @@
-use mathlib.Core.Path.{_≡_, refl, sym, _∙_, ap}
-use mathlib.Core.Bool.{Bool, true, false, not, Bool·beq}
+use mathlib.Core.Path.{_≡_, sym, _∙_, ap}
+use mathlib.Core.Bool.{Bool, not, Bool·beq}
 use lib.IntN.{pos}
 use borrow.Author.Tests.{eq-eqb, ne-eqb}
 use borrow.Author.Needs.{needs}
 use Rattle.walsh.specs.Words.{signed, turned}
 use Rattle.block.specs.Chain.{bit}
 use Rattle.block.specs.Decoding.{countOf}
+use Rattle.block.proofs.Xors.{turned-differs}
 use Rattle.block.proofs.interleaver.count.Statement.{statement}
 use Rattle.block.proofs.interleaver.count.Tie as tie
-
-turned-differs : (key bit : Bool) → turned key bit ≡ not (Bool·beq bit key)
-turned-differs true true = refl
-turned-differs true false = refl
-turned-differs false true = refl
-turned-differs false false = refl
 
 counts-differ : (key bit differ : Bool) → not (Bool·beq bit key) ≡ differ → signed differ (pos 1) ≡ signed (turned key bit) (pos 1)
 counts-differ key bit differ e = ap (λ (d : Bool). signed d (pos 1)) (sym (turned-differs key bit ∙ e))
