@@ -25,7 +25,6 @@ fn refused(refusal: Refusal) {
 
 fn kept(place: usize) {
     field(b" kept from ", place as u64);
-    text(b"\n");
 }
 
 fn tone(tone: u16) {
@@ -57,17 +56,34 @@ fn accepted_codes(count: usize, codes: &[u8; 10], characters: [Character; 8]) {
     }
 }
 
+fn sent(encoded: Encoded, tones: &[u16; 66], shown: usize)
+    requires { ⌜ shown ≤ 66 ⌝ }
+{
+    match encoded {
+        Encoded::Tones(count) => accepted_tones(count, tones, shown),
+        Encoded::Refused(refusal) => refused(refusal),
+    }
+    kept(outputs::tones_kept(tones));
+}
+
+fn heard(decoded: BlockDecoded, codes: &[u8; 10]) {
+    let answer = decoded.answer;
+    let characters = decoded.characters;
+    match answer {
+        Decoded::Text(count) => accepted_codes(count, codes, characters),
+        Decoded::Refused(refusal) => refused(refusal),
+    }
+    kept(outputs::codes_kept(codes));
+}
+
 fn encode_shown(name: &[u8], mode: u32, codes: &[u8], room: usize, shown: usize)
     requires { ⌜ (room ≤ 66) × (shown ≤ 66) ⌝ }
 {
     let mut tones = outputs::tones();
     let encoded = block::encode_block(mode, codes, &mut tones[0..room]);
     text(name);
-    match encoded {
-        Encoded::Tones(count) => accepted_tones(count, &tones, shown),
-        Encoded::Refused(refusal) => refused(refusal),
-    }
-    kept(outputs::tones_kept(&tones));
+    sent(encoded, &tones, shown);
+    text(b"\n");
 }
 
 pub fn first_tones(name: &[u8], mode: u32, codes: &[u8], shown: usize)
@@ -82,27 +98,18 @@ pub fn encode(name: &[u8], mode: u32, codes: &[u8], room: usize)
     encode_shown(name, mode, codes, room, 64);
 }
 
-fn answered(decoded: BlockDecoded, codes: &[u8; 10]) {
-    let answer = decoded.answer;
-    let characters = decoded.characters;
-    match answer {
-        Decoded::Text(count) => accepted_codes(count, codes, characters),
-        Decoded::Refused(refusal) => refused(refusal),
-    }
-}
-
 pub fn decode(name: &[u8], mode: u32, least_lead: u32, tones: &[u16], room: usize)
     requires { ⌜ room ≤ 10 ⌝ }
 {
     let mut codes = outputs::codes();
     let decoded = block::decode_block(mode, least_lead, tones, &mut codes[0..room]);
     text(name);
-    answered(decoded, &codes);
-    kept(outputs::codes_kept(&codes));
+    heard(decoded, &codes);
+    text(b"\n");
 }
 
 // The three calls of a trial on one line, with r and u.
-pub fn trial(name: &[u8], least_lead: u32, code: u8, heard: [u16; 64]) {
+pub fn trial(name: &[u8], least_lead: u32, code: u8, tones_heard: [u16; 64]) {
     let mut tones = outputs::tones();
     let mut first = outputs::codes();
     let mut second = outputs::codes();
@@ -110,24 +117,18 @@ pub fn trial(name: &[u8], least_lead: u32, code: u8, heard: [u16; 64]) {
         1,
         least_lead,
         &[code],
-        &heard,
+        &tones_heard,
         &mut tones,
         &mut first,
         &mut second,
     );
     text(name);
     let encoded = trial.encoded;
-    match encoded {
-        Encoded::Tones(count) => accepted_tones(count, &tones, 8),
-        Encoded::Refused(refusal) => refused(refusal),
-    }
-    field(b" kept from ", outputs::tones_kept(&tones) as u64);
+    sent(encoded, &tones, 8);
     text(b", first");
-    answered(trial.first, &first);
-    field(b" kept from ", outputs::codes_kept(&first) as u64);
+    heard(trial.first, &first);
     text(b", second");
-    answered(trial.second, &second);
-    field(b" kept from ", outputs::codes_kept(&second) as u64);
+    heard(trial.second, &second);
     field(b", replaced ", trial.replaced as u64);
     field(b" missing ", trial.missing as u64);
     text(b"\n");
