@@ -130,6 +130,9 @@ module _ (k : ℕ) where
   unfolding judgement
   odd-judgement b tones = rw (odd-unclear b tones)
 
+  odd-as-even : (b : ℕ) (tones : List ℕ) (room : ℕ) → decodeBlock b (2 * k - 1) tones room ≡ decodeBlock b (2 * k) tones room
+  unfolding decodeBlock
+  odd-as-even b tones room = rw (odd-limit, odd-judgement b tones)
+
 pub odd-leads : OddLeads
-unfolding decodeBlock
-odd-leads = record { even = λ b k tones room. rw (odd-limit k, odd-judgement k b tones) }
+odd-leads = record { even = λ b k. odd-as-even k b }
