@@ -16,7 +16,7 @@ use Rattle.walsh.proofs.Tables.{is-tab}
 use Rattle.block.specs.declared.Decoded.the-variants.{Text, Refused}
 use Rattle.block.specs.declared.BlockDecoded.{BlockDecoded}
 use Rattle.block.specs.Lists.{num, filled}
-use Rattle.block.specs.Checks.{isLead}
+use Rattle.refusal.specs.Checks.{isLead}
 use Rattle.block.specs.Decoding.{HasTones, none, symbolsOf, countIn, characterAt, charactersOf, codeIn, leadIn, firstUnclear, judgement, decodeBlock, decodedInto}
 use Rattle.block.specs.Demand.{IsSet, Gives, RefusesAsUnclear}
 use Rattle.block.specs.Laws.{Precisely, Clear, OddLeads}

@@ -43,7 +43,7 @@ code-word : (w : ℕ) (s : Bool) → w < 64 → (wordOf (codeOf w s) ≡ w) × (
 code-word w false h = rw (lt-ltb w 64 h) (refl, refl)
 code-word w true h = rw (le-ltb (w + 64) 64 (omega arith)) (omega arith, refl)
 
-code-below : (w : ℕ) (s : Bool) → w < 64 → codeOf w s < 128
+pub code-below : (w : ℕ) (s : Bool) → w < 64 → codeOf w s < 128
 code-below w true h = omega arith
 code-below w false h = omega arith
 
@@ -76,7 +76,7 @@ module _ (k : Bool) (place tone : ℕ) (v : Bool) (e : countOf k place (heardSym
 -- ---- a block with every lead 64
 
 -- the codes decided
-unfoldable decidedText : ℕ → List ℕ → List ℕ
+unfoldable pub decidedText : ℕ → List ℕ → List ℕ
 decidedText b tones = tab (λ q. characterAt b tones q .code) b
 
 module _ (b : ℕ) (tones : List ℕ) (low : 1 ≤ b) (high : b ≤ 8) (w : HasTones (2 ^ b) tones) (clean : (q : ℕ) → q < b → characterAt b tones q .lead ≡ 64) where
@@ -84,11 +84,11 @@ module _ (b : ℕ) (tones : List ℕ) (low : 1 ≤ b) (high : b ≤ 8) (w : HasT
   unfolding characterAt
   clean-at q h = clean-counts (countIn b (symbolsOf tones) q) (count-within b (symbolsOf tones) q) (clean q h)
 
-  code-at : (q : ℕ) → q < b → num (decidedText b tones) q ≡ characterAt b tones q .code
+  pub code-at : (q : ℕ) → q < b → num (decidedText b tones) q ≡ characterAt b tones q .code
   unfolding decidedText
   code-at q h = tab-at (λ k. characterAt b tones k .code) 0 b q h
 
-  clean-text : IsText b (decidedText b tones)
+  pub clean-text : IsText b (decidedText b tones)
   unfolding decidedText characterAt
   clean-text = record {
     count = tab-length _ b;
@@ -118,7 +118,7 @@ module _ (b : ℕ) (tones : List ℕ) (low : 1 ≤ b) (high : b ≤ 8) (w : HasT
       (λ q h. counted-bit (keyBit q t) ((q + t) % b) (num tones t) (codeBit (num (decidedText b tones) q) t) (count-clean q t h l)) in
       sym (ap gray (sym symbol) ∙ gray-code .tone-of-symbol (num tones t) (lt-of-lt-of-le below (pow-mono {i = b} {j = 8} high)))
 
-  clean-tones : tones ≡ tonesOf b (decidedText b tones)
+  pub clean-tones : tones ≡ tonesOf b (decidedText b tones)
   unfolding tonesOf
   clean-tones = is-tab (toneAt b (decidedText b tones)) 0 64 tones (w .count) tone-clean
 

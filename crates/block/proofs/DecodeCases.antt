@@ -2,7 +2,7 @@
 use mathlib.Core.Path.{_≡_, refl, _∙_, ap}
 use mathlib.Core.Bool.{Bool, true, false, cond}
 use mathlib.Core.List.{List}
-use Prim.Native.Nat.{ℕ, _<_, _≤_}
+use Prim.Native.Nat.{ℕ, _<_, _≤_, _^_}
 use native.Mathlib.Omega.{arith}
 use borrow.Author.Tests.{lt-ltb, le-ltb, eq-eqb, ne-eqb, ltb-false, eqb-true, not-false}
 use lib.Dec.{ltb}
@@ -14,7 +14,7 @@ use Rattle.block.specs.declared.Decoded.{Decoded}
 use Rattle.block.specs.declared.Decoded.the-variants.{Text, Refused}
 use Rattle.block.specs.declared.BlockDecoded.{BlockDecoded}
 use Rattle.block.specs.Lists.{filled}
-use Rattle.block.specs.Checks.{isMode, isLead}
+use Rattle.refusal.specs.Checks.{isMode, isLead}
 use Rattle.block.specs.Decoding.{charactersOf, codeIn, leadIn, firstUnclear, judgement, firstBadTone, refused, decodeBlock, heardInto, writtenBy, decodedInto}
 
 -- what a block's checks before its tones' range leave
@@ -44,13 +44,13 @@ module _ (b m : ℕ) (tones : List ℕ) (room : ℕ) where
       refuses-room n h = simp (e, f, eq-eqb (length tones) 64 n, lt-ltb room b h)
 
   module _ (p : Passed b m (length tones) room) where
-    pub refuses-tone : firstBadTone b tones < 64 → decodeBlock b m tones room ≡ refused 8 (firstBadTone b tones)
+    pub refuses-tone : firstBadTone (2 ^ b) tones < 64 → decodeBlock b m tones room ≡ refused 8 (firstBadTone (2 ^ b) tones)
     unfolding decodeBlock
-    refuses-tone h = simp (p .mode, p .lead, eq-eqb (length tones) 64 (p .count), le-ltb room b (p .fits), lt-ltb (firstBadTone b tones) 64 h)
+    refuses-tone h = simp (p .mode, p .lead, eq-eqb (length tones) 64 (p .count), le-ltb room b (p .fits), lt-ltb (firstBadTone (2 ^ b) tones) 64 h)
 
-    pub judges : 64 ≤ firstBadTone b tones → decodeBlock b m tones room ≡ record { answer = judgement b m (charactersOf b tones); characters = charactersOf b tones }
+    pub judges : 64 ≤ firstBadTone (2 ^ b) tones → decodeBlock b m tones room ≡ record { answer = judgement b m (charactersOf b tones); characters = charactersOf b tones }
     unfolding decodeBlock
-    judges h = simp (p .mode, p .lead, eq-eqb (length tones) 64 (p .count), le-ltb room b (p .fits), le-ltb (firstBadTone b tones) 64 h)
+    judges h = simp (p .mode, p .lead, eq-eqb (length tones) 64 (p .count), le-ltb room b (p .fits), le-ltb (firstBadTone (2 ^ b) tones) 64 h)
 
 module _ (b m : ℕ) (characters : List Character) where
   pub judged-unclear : firstUnclear b m characters < b → judgement b m characters ≡ Refused (unclearAt (firstUnclear b m characters) (leadIn characters (firstUnclear b m characters)))
@@ -89,7 +89,7 @@ unfolding refused
 passes true number place n d e = let z : _≡_ {A = ℕ} 0 1 = cc in absurd (omega arith)
 passes false number place n d e = (refl, e)
 
-judged-text : (b m n : ℕ) (characters : List Character) → judgement b m characters ≡ Text n → (n ≡ b) × (b ≤ firstUnclear b m characters)
+pub judged-text : (b m n : ℕ) (characters : List Character) → judgement b m characters ≡ Text n → (n ≡ b) × (b ≤ firstUnclear b m characters)
 unfolding judgement
 judged-text b m n characters e = by (ltb (firstUnclear b m characters) b) refl e
   where
@@ -101,7 +101,7 @@ judged-text b m n characters e = by (ltb (firstUnclear b m characters) b) refl e
 
 pub record Accepted (b m : ℕ) (tones : List ℕ) (room n : ℕ) : Type 0 where
   pub passed : Passed b m (length tones) room
-  pub in-range : 64 ≤ firstBadTone b tones
+  pub in-range : 64 ≤ firstBadTone (2 ^ b) tones
   pub whole : n ≡ b
   pub clear : b ≤ firstUnclear b m (charactersOf b tones)
 
@@ -121,7 +121,7 @@ accepted b m tones room n e =
         count = eqb-true (length tones) 64 (not-false _ (p3 .0));
         fits = ltb-false room b (p4 .0);
       };
-      in-range = ltb-false (firstBadTone b tones) 64 (p5 .0);
+      in-range = ltb-false (firstBadTone (2 ^ b) tones) 64 (p5 .0);
       whole = judged .0;
       clear = judged .1;
     }

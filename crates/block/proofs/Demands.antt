@@ -143,7 +143,7 @@ demand3 = record {
 -- ---- the round trip
 
 -- every character of the undamaged block is decided with lead 64
-sent-character : (b : ℕ) (text : List ℕ) (q : ℕ) → IsSet b 64 → IsText b text → q < b
+pub sent-character : (b : ℕ) (text : List ℕ) (q : ℕ) → IsSet b 64 → IsText b text → q < b
     → characterAt b (tonesOf b text) q ≡ record { code = num text q; lead = 64 }
 unfolding characterAt
 sent-character b text q s is-text hq =

@@ -10,7 +10,7 @@ use Rattle.refusal.specs.Refused.{refusedAt}
 use Rattle.block.specs.declared.Encoded.the-variants.{Tones, Refused}
 use Rattle.block.specs.Lists.{filled}
 use Rattle.block.specs.Chain.{toneAt}
-use Rattle.block.specs.Checks.{isMode}
+use Rattle.refusal.specs.Checks.{isMode}
 use Rattle.block.specs.Encoding.{firstBadCode, encodeBlock, sentInto, encodedInto}
 
 module _ (b : ℕ) (codes : List ℕ) (room : ℕ) where

@@ -3,7 +3,7 @@ use mathlib.Core.Path.{_≡_, refl, sym, _∙_, ap}
 use mathlib.Core.Bool.{Bool, true, false, cond}
 use mathlib.Core.List.{List, [], _∷_, _++_, append-assoc, append-nil}
 use Prim.Native.Nat.{ℕ, zero, suc, _+_, _-_, _<_, _≤_}
-use native.Mathlib.Decide.{ℕ-discrete}
+use native.Mathlib.Decide.{ℕ-discrete, decLt}
 use native.Mathlib.Nat.{sub-zero}
 use native.Mathlib.Numerals.{add-one}
 use native.Mathlib.Omega.{arith}
@@ -65,6 +65,17 @@ pub scan-none : (p : ℕ → Bool) (i n : ℕ) → ((k : ℕ) → i ≤ k → k 
 unfolding scan
 scan-none p i zero h = omega arith
 scan-none p i (suc n) h = rw (h i (omega arith) (omega arith)) (scan-none p (suc i) n (λ k l g. h k (omega arith) (omega arith)) ∙ omega arith)
+
+pub scan-at : (p : ℕ → Bool) (n s : ℕ) → s < n → p s ≡ true → ((k : ℕ) → k < s → p k ≡ false) → scan p 0 n ≡ s
+scan-at p n s h e f = by (decLt (scan p 0 n) s) (decLt s (scan p 0 n)) (scan-first p 0 n)
+  where
+    both : (i : ℕ) → p i ≡ true → p i ≡ false → ⊥
+    both i t u = let z : _≡_ {A = ℕ} 0 1 = cc in omega arith
+
+    by : Dec (scan p 0 n < s) → Dec (s < scan p 0 n) → First p 0 n (scan p 0 n) → scan p 0 n ≡ s
+    by (yes l) d g = absurd (both (scan p 0 n) (g .found (omega arith)) (f (scan p 0 n) l))
+    by (no k) (yes l) g = absurd (both s e (g .before s (omega arith) l))
+    by (no k) (no l) g = omega arith
 
 pub scan-ext : (p q : ℕ → Bool) (i n : ℕ) → ((k : ℕ) → i ≤ k → k < i + n → p k ≡ q k) → scan p i n ≡ scan q i n
 unfolding scan

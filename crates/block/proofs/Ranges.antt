@@ -3,7 +3,7 @@ use mathlib.Core.Path.{_≡_, refl}
 use mathlib.Core.Bool.{Bool, true, false, not, _&&_}
 use mathlib.Core.List.{List}
 use mathlib.Core.Logic.{_⊎_, inl, inr, ⊎-elim}
-use Prim.Native.Nat.{ℕ, _<_, _≤_, _^_}
+use Prim.Native.Nat.{ℕ, _<_, _≤_, _%_, _^_}
 use native.Mathlib.Nat.{lt-of-lt-of-le}
 use native.Mathlib.Omega.{arith}
 use borrow.Author.Tests.{leb-true, leb-false, eqb-true, le-leb, lt-leb, eq-eqb}
@@ -11,7 +11,7 @@ use lib.Dec.{leb, eqb}
 use lib.ListN.{length}
 use lib.Pow.{pow-mono}
 use Rattle.block.specs.Lists.{num}
-use Rattle.block.specs.Checks.{within, isMode, isLead}
+use Rattle.refusal.specs.Checks.{within, isMode, isLead}
 use Rattle.block.specs.Encoding.{badCode, firstBadCode}
 use Rattle.block.specs.Decoding.{missingMark, HasTones, badTone, firstBadTone}
 use Rattle.block.specs.Demand.{IsText, IsSet}
@@ -19,10 +19,10 @@ use Rattle.block.proofs.Lists.{scan-first, scan-none}
 
 -- ---- settings
 
-within-true : (low high n : ℕ) → low ≤ n → n ≤ high → within low high n ≡ true
+pub within-true : (low high n : ℕ) → low ≤ n → n ≤ high → within low high n ≡ true
 within-true low high n p q = rw (le-leb low n p, le-leb n high q)
 
-within-range : (low high n : ℕ) → within low high n ≡ true → (low ≤ n) × (n ≤ high)
+pub within-range : (low high n : ℕ) → within low high n ≡ true → (low ≤ n) × (n ≤ high)
 within-range low high n e = by (leb low n) refl (leb n high) refl e
   where
     by : (s : Bool) → leb low n ≡ s → (t : Bool) → leb n high ≡ t → s && t ≡ true → (low ≤ n) × (n ≤ high)
@@ -38,6 +38,12 @@ is-lead b m s = within-true 1 64 m (s .lead-low) (s .lead-high)
 
 pub mode-range : (b : ℕ) → isMode b ≡ true → (1 ≤ b) × (b ≤ 8)
 mode-range b e = within-range 1 8 b e
+
+pub mode-tones : (b : ℕ) → isMode b ≡ true → 2 ^ (b % 16) ≡ 2 ^ b
+mode-tones b e =
+    let small : b ≤ 8 = mode-range b e .1 in
+    let same : b % 16 ≡ b = omega arith in
+    rw same
 
 pub lead-range : (m : ℕ) → isLead m ≡ true → (1 ≤ m) × (m ≤ 64)
 lead-range m e = within-range 1 64 m e
@@ -68,16 +74,16 @@ tone-good limit n e = by (leb limit n) refl (eqb n missingMark) refl e
     by true p false q e = let z : _≡_ {A = ℕ} 0 1 = cc in absurd (omega arith)
 
 module _ (b : ℕ) (tones : List ℕ) where
-  pub tones-in-range : HasTones (2 ^ b) tones → 64 ≤ firstBadTone b tones
+  pub tones-in-range : HasTones (2 ^ b) tones → 64 ≤ firstBadTone (2 ^ b) tones
   unfolding firstBadTone
   tones-in-range h =
-      omega (arith, h .count, scan-none (badTone b tones) 0 (length tones) (λ t l g. good-tone (2 ^ b) (num tones t) (h .each t (omega (arith, h .count)))))
+      omega (arith, h .count, scan-none (badTone (2 ^ b) tones) 0 (length tones) (λ t l g. good-tone (2 ^ b) (num tones t) (h .each t (omega (arith, h .count)))))
 
-  pub in-range-tones : length tones ≡ 64 → 64 ≤ firstBadTone b tones → HasTones (2 ^ b) tones
+  pub in-range-tones : length tones ≡ 64 → 64 ≤ firstBadTone (2 ^ b) tones → HasTones (2 ^ b) tones
   unfolding firstBadTone
   in-range-tones n h = record {
     count = n;
-    each = λ t l. tone-good (2 ^ b) (num tones t) (scan-first (badTone b tones) 0 (length tones) .before t (omega arith) (omega arith));
+    each = λ t l. tone-good (2 ^ b) (num tones t) (scan-first (badTone (2 ^ b) tones) 0 (length tones) .before t (omega arith) (omega arith));
   }
 
 -- tones of a mode are below 256

@@ -11,7 +11,7 @@ use Rattle.walsh.proofs.Integers.{cond-cases}
 use Rattle.block.specs.declared.Encoded.{Encoded}
 use Rattle.block.specs.declared.BlockDecoded.{BlockDecoded}
 use Rattle.block.specs.Chain.{toneAt, tonesOf}
-use Rattle.block.specs.Checks.{isMode}
+use Rattle.refusal.specs.Checks.{isMode}
 use Rattle.block.specs.Encoding.{firstBadCode, encodeBlock, sentInto, encodedInto}
 use Rattle.block.specs.Decoding.{decodeBlock, decodedInto}
 use Rattle.block.specs.Demand.{missingIn, replacedIn, Covered, countSent, air, trialOf, Tried}

@@ -14,7 +14,7 @@ use Rattle.walsh.specs.Decision.{decision}
 use Rattle.walsh.specs.declared.Character.{Character}
 use Rattle.block.specs.Lists.{num, filled, scan}
 use Rattle.block.specs.Chain.{bit, keyBit, gray}
-use Rattle.block.specs.Checks.{isMode, isLead}
+use Rattle.refusal.specs.Checks.{isMode, isLead}
 use Rattle.block.specs.declared.Decoded.{Decoded}
 use Rattle.block.specs.declared.Decoded.the-variants.{Text, Refused}
 use Rattle.block.specs.declared.BlockDecoded.{BlockDecoded}
@@ -79,13 +79,13 @@ judgement b m characters =
 
 -- ---- the answer
 
--- a tone that is neither below 2^b nor the missing mark
+-- a tone that is neither below limit nor the missing mark
 abbrev pub badTone : ℕ → List ℕ → ℕ → Bool
-badTone b tones t = leb (2 ^ b) (num tones t) && not (eqb (num tones t) missingMark)
+badTone limit tones t = leb limit (num tones t) && not (eqb (num tones t) missingMark)
 
 -- the lowest place of such a tone, else the count of tones
 unfoldable pub firstBadTone : ℕ → List ℕ → ℕ
-firstBadTone b tones = scan (badTone b tones) 0 (length tones)
+firstBadTone limit tones = scan (badTone limit tones) 0 (length tones)
 
 -- a refusal before any character is decided
 unfoldable pub refused : ℕ → ℕ → BlockDecoded
@@ -98,7 +98,7 @@ decodeBlock b m tones room =
     (cond (not (isLead m)) (refused 2 0)
     (cond (not (eqb (length tones) 64)) (refused 7 0)
     (cond (ltb room b) (refused 9 0)
-    (cond (ltb (firstBadTone b tones) 64) (refused 8 (firstBadTone b tones))
+    (cond (ltb (firstBadTone (2 ^ b) tones) 64) (refused 8 (firstBadTone (2 ^ b) tones))
     (record { answer = judgement b m (charactersOf b tones); characters = charactersOf b tones })))))
 
 -- the output after an answer: the codes at its front, or as it was

@@ -7,7 +7,7 @@ use lib.ListN.{length}
 use Rattle.refusal.specs.Refused.{refusedAt}
 use Rattle.block.specs.Lists.{num, filled, scan}
 use Rattle.block.specs.Chain.{toneAt}
-use Rattle.block.specs.Checks.{isMode}
+use Rattle.refusal.specs.Checks.{isMode}
 use Rattle.block.specs.declared.Encoded.{Encoded}
 use Rattle.block.specs.declared.Encoded.the-variants.{Tones, Refused}
 

@@ -5,36 +5,11 @@ use super::interleaver;
 use walsh::Character;
 ghost use mathlib.Core.Path.{_≡_};
 ghost use mathlib.Core.Logic.{_⊎_};
-ghost use Prim.Native.Nat.{_<_, _≤_, _^_};
+ghost use Prim.Native.Nat.{_<_, _≤_};
 ghost use lib.ListN.{length};
 ghost use Rattle.walsh.specs.Lists.{tab};
 ghost use Rattle.block.specs.Lists.{filled};
-ghost use Rattle.block.specs.Decoding.{missingMark, HasTones, symbolOf, symbolsOf, heardSymbol, charactersOf, codeIn, firstUnclear, firstBadTone};
-
-// The count of tones of a mode, 2^mode.
-pub fn tone_count(mode: usize) -> u16
-    requires { ⌜ mode ≤ 8 ⌝ }
-    ensures { λ r. ⌜ r ≡ 2 ^ mode ⌝ }
-{
-    1u16 << mode
-}
-
-// The lowest place of a tone that is neither one of the mode's nor missing, else the count of tones.
-pub fn first_bad_tone(mode: usize, tones: &[u16]) -> usize
-    requires { ⌜ mode ≤ 8 ⌝ }
-    ensures { λ r. ⌜ r ≡ firstBadTone mode (now (tones .entry)) ⌝ }
-{
-    let limit = tone_count(mode);
-    let mut t: usize = 0;
-    while t < tones.len() {
-        let tone = tones[t];
-        if limit <= tone && tone != MISSING {
-            return t;
-        }
-        t += 1;
-    }
-    t
-}
+ghost use Rattle.block.specs.Decoding.{missingMark, HasTones, symbolOf, symbolsOf, heardSymbol, charactersOf, codeIn, firstUnclear};
 
 // A missing tone's symbol is missing too.
 fn heard_symbol(symbols: &[u16; 256], tone: u16) -> u16

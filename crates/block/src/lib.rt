@@ -1,13 +1,13 @@
 // One block of the published chain, encoded and decoded: document 01, "Sending a block" and "Hearing a block".
 use refusal::Refusal;
+use refusal::checks;
 use walsh::Character;
 ghost use mathlib.Core.Path.{_≡_};
 ghost use Prim.Native.Nat.{_≤_};
 ghost use lib.ListN.{length};
 ghost use Rattle.block.specs.Encoding.{encodeBlock, encodedInto};
-ghost use Rattle.block.specs.Decoding.{refused, judgement, decodeBlock, decodedInto};
+ghost use Rattle.block.specs.Decoding.{firstBadTone, refused, judgement, decodeBlock, decodedInto};
 
-mod checks;
 mod decode;
 mod encode;
 mod gray;
@@ -94,13 +94,28 @@ pub fn decide_block(mode: u32, least_lead: u32, tones: &[u16], room: usize) -> B
     if room < b {
         return refused(refusal::ROOM, 0);
     }
-    let bad = decode::first_bad_tone(b, tones);
+    let bad = first_bad_tone(checks::tone_count(mode), tones);
     if bad < 64 {
         return refused(refusal::TONE, bad);
     }
     let characters = decode::characters(b, tones);
     let answer = judge(b, least_lead, characters);
     BlockDecoded { answer, characters }
+}
+
+// The lowest place of a tone that is neither below limit nor missing, else the count of tones.
+pub fn first_bad_tone(limit: u16, tones: &[u16]) -> usize
+    ensures { λ r. ⌜ r ≡ firstBadTone limit (now (tones .entry)) ⌝ }
+{
+    let mut t: usize = 0;
+    while t < tones.len() {
+        let tone = tones[t];
+        if limit <= tone && tone != MISSING {
+            return t;
+        }
+        t += 1;
+    }
+    t
 }
 
 fn refused(number: u8, place: usize) -> BlockDecoded

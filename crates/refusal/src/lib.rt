@@ -2,6 +2,8 @@
 ghost use mathlib.Core.Path.{_≡_};
 ghost use Rattle.refusal.specs.Refused.{refusedAt, unclearAt};
 
+pub mod checks;
+
 // The installer: the mode is not 1 to 8.
 pub const MODE: u8 = 1;
 // The installer: the set lead is not 1 to 64.

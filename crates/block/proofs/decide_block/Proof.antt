@@ -3,10 +3,11 @@ use mathlib.Core.Bool.{true}
 use borrow.Author.Needs.{needs}
 use borrow.Author.Tests.{not-true, not-false}
 use lib.ListN.{length}
-use Rattle.block.specs.Checks.{isMode, isLead}
-use Rattle.block.specs.Decoding.{refused}
+use Prim.Native.Nat.{ℕ, _^_}
+use Rattle.refusal.specs.Checks.{isMode, isLead}
+use Rattle.block.specs.Decoding.{firstBadTone, refused}
 use Rattle.block.proofs.DecodeCases.{Passed, refuses-mode, refuses-lead, refuses-count, refuses-room, refuses-tone, judges, same-decoded}
-use Rattle.block.proofs.Ranges.{mode-range, in-range-tones, byte-tones}
+use Rattle.block.proofs.Ranges.{mode-range, mode-tones, in-range-tones, byte-tones}
 use Rattle.block.proofs.decide_block.Statement.{statement}
 use Rattle.block.proofs.decide_block.Tie as tie
 
@@ -62,8 +63,18 @@ passed c =
     let l = c .before .before in
     record { mode = mode-known (l .before .before); lead = lead-known l; count = c .before .if3 .left; fits = c .if4 .left }
 
+tone-count-requires : tie.Need-tone-count-requires
+tone-count-requires c κs = search needs
+
 first-bad-tone-requires : tie.Need-first-bad-tone-requires
-first-bad-tone-requires c κs = mode-range _ (passed c .mode) .1
+first-bad-tone-requires c κs = search needs
+
+-- the range check is by the mode's count of tones
+range : (c : tie.After-first-bad-tone) → let a = c .before .before .before .before .before .before .before .before .before .args in c .first-bad-tone .result ≡ firstBadTone (2 ^ a .mode) (a .tones .now)
+range c =
+    let t = c .before in
+    let a = t .before .before .before .before .before .before .before .before .args in
+    c .first-bad-tone .ensures ∙ ap (λ (limit : ℕ). firstBadTone limit (a .tones .now)) (t .tone-count .ensures ∙ mode-tones (a .mode) (passed (t .before) .mode))
 
 refused-requires-5 : tie.Need-refused-requires-5
 refused-requires-5 c κs = search needs
@@ -71,24 +82,24 @@ refused-requires-5 c κs = search needs
 returns-5 : tie.Need-returns-5
 returns-5 c =
     let f = c .before .before in
-    c .refused5 .ensures ∙ ap (refused 8) (f .first-bad-tone .ensures) ∙ sym (refuses-tone _ _ _ _ (passed (f .before)) (rw (f .first-bad-tone .ensures) at (c .before .if5 .taken)))
+    c .refused5 .ensures ∙ ap (refused 8) (range f) ∙ sym (refuses-tone _ _ _ _ (passed (f .before .before)) (rw (range f) at (c .before .if5 .taken)))
 
 characters-requires : tie.Need-characters-requires
 characters-requires c κs =
     let f = c .before in
-    let p = passed (f .before) in
+    let p = passed (f .before .before) in
     let m = mode-range _ (p .mode) in
-    (m .1, byte-tones _ _ (m .1) (in-range-tones _ _ (p .count) (rw (f .first-bad-tone .ensures) at (c .if5 .left))))
+    (m .1, byte-tones _ _ (m .1) (in-range-tones _ _ (p .count) (rw (range f) at (c .if5 .left))))
 
 judge-requires : tie.Need-judge-requires
-judge-requires c κs = mode-range _ (passed (c .before .before .before) .mode) .1
+judge-requires c κs = mode-range _ (passed (c .before .before .before .before) .mode) .1
 
 returns-6 : tie.Need-returns-6
 returns-6 c =
     let h = c .before in
     let f = h .before .before in
     same-decoded _ _ (c .judge .ensures) (h .characters .ensures)
-    ∙ sym (judges _ _ _ _ (passed (f .before)) (rw (f .first-bad-tone .ensures) at (h .before .if5 .left)))
+    ∙ sym (judges _ _ _ _ (passed (f .before .before)) (rw (range f) at (h .before .if5 .left)))
 
 pub decide-block-spec : {M : Type 1} → statement M
 decide-block-spec =
@@ -104,6 +115,7 @@ decide-block-spec =
     returns-3
     refused-requires-4
     returns-4
+    tone-count-requires
     first-bad-tone-requires
     refused-requires-5
     returns-5

@@ -3,7 +3,7 @@ use mathlib.Core.Bool.{true}
 use borrow.Author.Needs.{needs}
 use borrow.Author.Tests.{not-true, not-false}
 use Rattle.refusal.specs.Refused.{refusedAt}
-use Rattle.block.specs.Checks.{isMode}
+use Rattle.refusal.specs.Checks.{isMode}
 use Rattle.block.proofs.EncodeCases.{refuses-mode, refuses-count, refuses-room, refuses-code, encodes, tones-written, refusal-told}
 use Rattle.block.proofs.Ranges.{mode-range}
 use Rattle.block.proofs.encode_block.Statement.{statement}

@@ -1,6 +1,6 @@
 use borrow.Author.Tests.{le-leb, lt-leb}
-use Rattle.block.proofs.checks.is_mode.Statement.{statement}
-use Rattle.block.proofs.checks.is_mode.Tie as tie
+use Rattle.refusal.proofs.checks.is_mode.Statement.{statement}
+use Rattle.refusal.proofs.checks.is_mode.Tie as tie
 
 returns : tie.Need-returns
 returns c = rw (le-leb _ _ (c .if1 .taken))

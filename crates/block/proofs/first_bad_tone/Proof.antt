@@ -8,18 +8,15 @@ use borrow.Author.Tests.{le-leb, lt-leb}
 use Rattle.block.specs.Lists.{scan}
 use Rattle.block.specs.Decoding.{badTone, firstBadTone}
 use Rattle.block.proofs.Lists.{scan-start, scan-hit, scan-miss, scan-end}
-use Rattle.block.proofs.decode.first_bad_tone.Statement.{statement}
-use Rattle.block.proofs.decode.first_bad_tone.Tie as tie
+use Rattle.block.proofs.first_bad_tone.Statement.{statement}
+use Rattle.block.proofs.first_bad_tone.Tie as tie
 
 abbrev Inv-loop : tie.InvT-loop
-Inv-loop mode tones limit t₀ t =
-    (t ≤ length tones) × (scan (badTone mode tones) t (length tones - t) ≡ firstBadTone mode tones)
+Inv-loop limit tones t₀ t =
+    (t ≤ length tones) × (scan (badTone limit tones) t (length tones - t) ≡ firstBadTone limit tones)
 
 abbrev μ-loop : tie.MeasureT-loop
-μ-loop mode tones limit t₀ t = length tones - t
-
-tone-count-requires : tie.Need-tone-count-requires Inv-loop μ-loop
-tone-count-requires c κs = search needs
+μ-loop limit tones t₀ t = length tones - t
 
 loop-holds : tie.Need-loop-holds Inv-loop μ-loop
 unfolding firstBadTone
@@ -34,9 +31,9 @@ shared-slice-read-tone c = search needs
 returns : tie.Need-returns Inv-loop μ-loop
 returns c =
     let l = c .before .before .before .before in
-    let s = l .before .before .before in
-    let here : badTone (s .args .mode) (s .args .tones .now) (l .loop .t) ≡ true =
-    rw (← (l .before .tone-count .ensures), le-leb _ _ (c .before .if1 .taken), c .if2 .taken) in
+    let s = l .before in
+    let here : badTone (s .args .limit) (s .args .tones .now) (l .loop .t) ≡ true =
+    rw (le-leb _ _ (c .before .if1 .taken), c .if2 .taken) in
     sym (scan-hit _ (l .loop .t) _ (c .before .before .before .loop-test .taken) here) ∙ l .loop .inv .1
 
 add-t : tie.Need-add-t Inv-loop μ-loop
@@ -48,9 +45,8 @@ loop-less c = search needs
 loop-again : tie.Need-loop-again Inv-loop μ-loop
 loop-again c =
     let l = c .before .before .before in
-    let s = l .before .before .before in
-    let here : badTone (s .args .mode) (s .args .tones .now) (l .loop .t) ≡ false =
-    rw (← (l .before .tone-count .ensures))
+    let s = l .before in
+    let here : badTone (s .args .limit) (s .args .tones .now) (l .loop .t) ≡ false =
     (⊎-elim (λ w. rw (le-leb _ _ (w .0 .taken), w .1 .left)) (λ w. rw (lt-leb _ _ (w .left))) (c .if1 .came)) in
     (search needs, scan-miss _ (l .loop .t) _ (c .before .before .loop-test .taken) here ∙ l .loop .inv .1)
 
@@ -63,7 +59,6 @@ first-bad-tone-spec =
     (tie.spec
     Inv-loop
     μ-loop
-    tone-count-requires
     loop-holds
     mul-tone
     shared-slice-read-tone

@@ -1,4 +1,4 @@
--- The limits that both entries check: document 01, "Who can cause a refusal".
+-- Limits that several entries check: document 01, "Who can cause a refusal".
 use mathlib.Core.Bool.{Bool, _&&_}
 use Prim.Native.Nat.{ℕ}
 use lib.Dec.{leb}

@@ -1,0 +1,14 @@
+pub mod Joins
+pub mod Counts
+pub mod ToneRanges
+pub mod EncodeCases
+pub mod SentBlocks
+pub mod Sending
+pub mod TextEnds
+pub mod TextCases
+pub mod DecodeCases
+pub mod HeardBlocks
+pub mod Hearing
+pub mod Fillings
+pub mod RoundTrips
+pub mod CleanBlocks

@@ -1,0 +1,54 @@
+use mathlib.Core.Path.{sym, _∙_}
+use Prim.Native.Nat.{_≤_}
+use native.Mathlib.Omega.{arith}
+use lib.ListN.{length}
+use borrow.Author.Needs.{needs}
+use Rattle.message.proofs.TextCases.{delivered, text-kept, text-written}
+use Rattle.message.proofs.TextEnds.{end-within}
+use Rattle.message.proofs.decode.deliver.Statement.{statement}
+use Rattle.message.proofs.decode.deliver.Tie as tie
+
+judge-requires : tie.Need-judge-requires
+judge-requires c κs = search needs
+
+enum-known-answer : tie.Need-enum-known-answer
+enum-known-answer c = search needs
+
+put-text-requires : tie.Need-put-text-requires
+put-text-requires c κs =
+    let a = c .before .before in
+    let d = a .before .before in
+    let codes = d .before .before .before .args .codes .now in
+    let told = delivered _ _ _ _ (sym (d .judge .ensures) ∙ a .answer .given .1) in
+    let short : a .answer .given .0 .0 ≤ length codes = omega (arith, told .end, end-within codes (length codes)) in
+    (short, omega arith)
+
+enum-told : tie.Need-enum-told
+enum-told c = search needs
+
+same-length : tie.Need-same-length
+same-length c = search needs
+
+returns : tie.Need-returns
+returns c =
+    let p = c .before .before in
+    let a = p .before .before .before in
+    let told = sym (a .before .before .judge .ensures) ∙ a .answer .given .1 in
+    (sym told, p .put-text .ensures ∙ sym (text-written _ _ _ told))
+
+returns-2 : tie.Need-returns-2
+returns-2 c =
+    let d = c .before .before in
+    (d .judge .ensures, sym (text-kept _ _ _ (sym (d .judge .ensures) ∙ c .enum-told .given .1)))
+
+pub deliver-spec : {M : Type 1} → statement M
+deliver-spec =
+    tie.close
+    (tie.spec
+    judge-requires
+    enum-known-answer
+    put-text-requires
+    enum-told
+    same-length
+    returns
+    returns-2)

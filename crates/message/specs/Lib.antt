@@ -1,0 +1,4 @@
+pub mod Blocks
+pub mod Encoding
+pub mod Decoding
+pub mod Laws

@@ -1,0 +1,23 @@
+// Limits that several entries check: document 01, "Who can cause a refusal".
+ghost use mathlib.Core.Path.{_≡_};
+ghost use Prim.Native.Nat.{_%_, _^_};
+ghost use Rattle.refusal.specs.Checks.{isMode, isLead};
+
+pub fn is_mode(mode: u32) -> bool
+    ensures { λ r. ⌜ r ≡ isMode mode ⌝ }
+{
+    1 <= mode && mode <= 8
+}
+
+pub fn is_lead(least_lead: u32) -> bool
+    ensures { λ r. ⌜ r ≡ isLead «least_lead» ⌝ }
+{
+    1 <= least_lead && least_lead <= 64
+}
+
+// The count of a mode's tones, 2^mode. A number of 16 or more goes by its lowest four bits.
+pub fn tone_count(mode: u32) -> u16
+    ensures { λ r. ⌜ r ≡ 2 ^ (mode % 16) ⌝ }
+{
+    1u16 << (mode % 16)
+}
