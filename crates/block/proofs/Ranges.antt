@@ -6,29 +6,19 @@ use mathlib.Core.Logic.{_⊎_, inl, inr, ⊎-elim}
 use Prim.Native.Nat.{ℕ, _<_, _≤_, _%_, _^_}
 use native.Mathlib.Nat.{lt-of-lt-of-le}
 use native.Mathlib.Omega.{arith}
-use borrow.Author.Tests.{leb-true, leb-false, eqb-true, le-leb, lt-leb, eq-eqb}
+use borrow.Author.Tests.{leb-false, eqb-true, le-leb, lt-leb, eq-eqb}
 use lib.Dec.{leb, eqb}
 use lib.ListN.{length}
 use lib.Pow.{pow-mono}
 use Rattle.block.specs.Lists.{num}
-use Rattle.refusal.specs.Checks.{within, isMode, isLead}
+use Rattle.refusal.specs.Checks.{isMode, isLead}
+use Rattle.refusal.proofs.Limits.{within-true, within-range}
 use Rattle.block.specs.Encoding.{badCode, firstBadCode}
 use Rattle.block.specs.Decoding.{missingMark, HasTones, badTone, firstBadTone}
 use Rattle.block.specs.Demand.{IsText, IsSet}
 use Rattle.block.proofs.Lists.{scan-first, scan-none}
 
 -- ---- settings
-
-pub within-true : (low high n : ℕ) → low ≤ n → n ≤ high → within low high n ≡ true
-within-true low high n p q = rw (le-leb low n p, le-leb n high q)
-
-pub within-range : (low high n : ℕ) → within low high n ≡ true → (low ≤ n) × (n ≤ high)
-within-range low high n e = by (leb low n) refl (leb n high) refl e
-  where
-    by : (s : Bool) → leb low n ≡ s → (t : Bool) → leb n high ≡ t → s && t ≡ true → (low ≤ n) × (n ≤ high)
-    by true p true q e = (leb-true low n p, leb-true n high q)
-    by true p false q e = let z : _≡_ {A = ℕ} 0 1 = cc in absurd (omega arith)
-    by false p t q e = let z : _≡_ {A = ℕ} 0 1 = cc in absurd (omega arith)
 
 pub is-mode : (b m : ℕ) → IsSet b m → isMode b ≡ true
 is-mode b m s = within-true 1 8 b (s .mode-low) (s .mode-high)
@@ -57,13 +47,16 @@ text-in-range b text h =
 
 -- ---- tones
 
-good-tone : (limit n : ℕ) → (n < limit) ⊎ (n ≡ missingMark) → leb limit n && not (eqb n missingMark) ≡ false
+pub good-tone : (limit n : ℕ) → (n < limit) ⊎ (n ≡ missingMark) → leb limit n && not (eqb n missingMark) ≡ false
 good-tone limit n (inl l) = rw (lt-leb limit n l)
 good-tone limit n (inr e) = rw (eq-eqb n missingMark e) (and-false-right (leb limit n))
   where
     and-false-right : (s : Bool) → s && false ≡ false
     and-false-right true = refl
     and-false-right false = refl
+
+pub bad-tone : (limit n : ℕ) → limit ≤ n → not (eqb n missingMark) ≡ true → leb limit n && not (eqb n missingMark) ≡ true
+bad-tone limit n h e = rw (le-leb limit n h, e)
 
 tone-good : (limit n : ℕ) → leb limit n && not (eqb n missingMark) ≡ false → (n < limit) ⊎ (n ≡ missingMark)
 tone-good limit n e = by (leb limit n) refl (eqb n missingMark) refl e

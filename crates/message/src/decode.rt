@@ -6,7 +6,7 @@ use refusal::checks;
 ghost use mathlib.Core.Path.{_≡_};
 ghost use mathlib.Core.Bool.{true};
 ghost use mathlib.Core.List.{_++_};
-ghost use Prim.Native.Nat.{_*_, _≤_, _^_};
+ghost use Prim.Native.Nat.{_+_, _*_, _≤_, _^_};
 ghost use lib.ListN.{length, drop};
 ghost use Rattle.refusal.specs.Checks.{isMode, isLead};
 ghost use Rattle.block.specs.Lists.{num, filled};
@@ -17,7 +17,10 @@ ghost use Rattle.message.specs.Decoding.{heardCharacters, codesOf, textE
 
 // Decides the first count blocks. Their codes go over the front of codes, which a refusal leaves written in part.
 fn collect(mode: u32, least_lead: u32, count: usize, tones: &[u16], codes: &mut [u8]) -> Decoded
-    requires { ⌜ (isMode mode ≡ true) × (isLead «least_lead» ≡ true) × (length (now tones) ≡ 64 * count) × (length (now tones) ≤ firstBadTone (2 ^ mode) (now tones)) × (count * mode ≤ length (now codes)) ⌝ }
+    requires settings { ⌜ (isMode mode ≡ true) × (isLead «least_lead» ≡ true) ⌝ }
+    requires whole { ⌜ length (now tones) ≡ 64 * count ⌝ }
+    requires range { ⌜ length (now tones) ≤ firstBadTone (2 ^ mode) (now tones) ⌝ }
+    requires room { ⌜ count * mode ≤ length (now codes) ⌝ }
     ensures answer { λ r. ⌜ r ≡ judgement (count * mode) «least_lead» (heardCharacters mode (now (tones .entry)) count) ⌝ }
     ensures output { λ r. ⌜ (r ≡ Text (count * mode) → now (codes .exit) ≡ codesOf (heardCharacters mode (now (tones .entry)) count) ++ drop (count * mode) (now (codes .entry))) ⌝ }
 {
@@ -119,15 +122,18 @@ fn deliver(limit: usize, mode: usize, codes: &[u8], text: &mut [u8]) -> Decoded
     }
 }
 
-// Decodes a text of at most limit codes.
+// Decodes a text of at most limit codes. The codes of all blocks go over codes first, which is left open, and the text over
+// text when every block is decided.
 pub fn decode_within(
     limit: usize,
     mode: u32,
     least_lead: u32,
     tones: &[u16],
+    codes: &mut [u8],
     text: &mut [u8],
 ) -> Decoded
-    requires { ⌜ limit ≤ longest ⌝ }
+    requires limit { ⌜ limit ≤ longest ⌝ }
+    requires room { ⌜ limit + 7 ≤ length (now codes) ⌝ }
     ensures answer { λ r. ⌜ r ≡ decodeMessage limit mode «least_lead» (now (tones .entry)) (length (now (text .entry))) ⌝ }
     ensures output { λ _. ⌜ now (text .exit) ≡ messageDecodedInto limit mode «least_lead» (now (tones .entry)) (now (text .entry)) ⌝ }
 {
@@ -150,9 +156,7 @@ pub fn decode_within(
     if bad < tones.len() {
         return Decoded::Refused(Refusal::at(refusal::TONE, bad));
     }
-    // The most codes of whole blocks: LONGEST, and up to 7 that fill the last block.
-    let mut codes = [0u8; 1031];
-    let heard = collect(mode, least_lead, count, tones, &mut codes);
+    let heard = collect(mode, least_lead, count, tones, codes);
     match heard {
         Decoded::Text(_) => deliver(limit, b, &codes[0..total], text),
         Decoded::Refused(_) => heard,

@@ -1,13 +1,14 @@
 use mathlib.Core.Path.{_≡_, sym, _∙_}
 use mathlib.Core.Bool.{true, false}
-use mathlib.Core.Logic.{⊎-elim}
+use mathlib.Core.Logic.{inl, inr, ⊎-elim}
 use Prim.Native.Nat.{_≤_, _-_}
 use lib.ListN.{length}
 use borrow.Author.Needs.{needs}
-use borrow.Author.Tests.{le-leb, lt-leb}
-use Rattle.block.specs.Lists.{scan}
-use Rattle.block.specs.Decoding.{badTone, firstBadTone}
+use borrow.Author.Tests.{eqb-true, not-false}
+use Rattle.block.specs.Lists.{num, scan}
+use Rattle.block.specs.Decoding.{missingMark, badTone, firstBadTone}
 use Rattle.block.proofs.Lists.{scan-start, scan-hit, scan-miss, scan-end}
+use Rattle.block.proofs.Ranges.{good-tone, bad-tone}
 use Rattle.block.proofs.first_bad_tone.Statement.{statement}
 use Rattle.block.proofs.first_bad_tone.Tie as tie
 
@@ -33,7 +34,7 @@ returns c =
     let l = c .before .before .before .before in
     let s = l .before in
     let here : badTone (s .args .limit) (s .args .tones .now) (l .loop .t) ≡ true =
-    rw (le-leb _ _ (c .before .if1 .taken), c .if2 .taken) in
+    bad-tone (s .args .limit) (num (s .args .tones .now) (l .loop .t)) (c .before .if1 .taken) (c .if2 .taken) in
     sym (scan-hit _ (l .loop .t) _ (c .before .before .before .loop-test .taken) here) ∙ l .loop .inv .1
 
 add-t : tie.Need-add-t Inv-loop μ-loop
@@ -47,7 +48,7 @@ loop-again c =
     let l = c .before .before .before in
     let s = l .before in
     let here : badTone (s .args .limit) (s .args .tones .now) (l .loop .t) ≡ false =
-    (⊎-elim (λ w. rw (le-leb _ _ (w .0 .taken), w .1 .left)) (λ w. rw (lt-leb _ _ (w .left))) (c .if1 .came)) in
+    good-tone (s .args .limit) (num (s .args .tones .now) (l .loop .t)) (⊎-elim (λ w. inr (eqb-true _ missingMark (not-false _ (w .1 .left)))) (λ w. inl (w .left)) (c .if1 .came)) in
     (search needs, scan-miss _ (l .loop .t) _ (c .before .before .loop-test .taken) here ∙ l .loop .inv .1)
 
 returns-2 : tie.Need-returns-2 Inv-loop μ-loop

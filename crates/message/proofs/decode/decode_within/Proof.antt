@@ -3,7 +3,7 @@ use mathlib.Core.Bool.{true}
 use Prim.Native.Nat.{ℕ, _/_, _*_, _^_}
 use native.Mathlib.Nat.{mul-le-mul-left}
 use native.Mathlib.Omega.{arith}
-use lib.ListN.{length, drop, replicate}
+use lib.ListN.{length, drop}
 use borrow.Author.Needs.{needs}
 use borrow.Author.Tests.{not-true, not-false}
 use Rattle.refusal.specs.Refused.{refusedAt}
@@ -33,13 +33,13 @@ returns c =
     refusal-told _ _ _ _ _ (c .at .ensures) (refuses-mode _ _ _ _ _ (sym (m .is-mode .ensures) ∙ not-true (m .is-mode .result) (c .before .if1 .taken)))
 
 -- the settings and the count of tones, once their checks have passed
-mode-known : (c : tie.Else1) → isMode (c .before .before .before .before .args .mode) ≡ true
+mode-known : (c : tie.Else1) → isMode (c .before .before .before .before .before .args .mode) ≡ true
 mode-known c = sym (c .before .is-mode .ensures) ∙ not-false (c .before .is-mode .result) (c .if1 .left)
 
-lead-known : (c : tie.Else2) → isLead (c .before .before .before .before .before .before .args .least-lead) ≡ true
+lead-known : (c : tie.Else2) → isLead (c .before .before .before .before .before .before .before .args .least-lead) ≡ true
 lead-known c = sym (c .before .is-lead .ensures) ∙ not-false (c .before .is-lead .result) (c .if2 .left)
 
-whole-known : (c : tie.Else3) → let a = c .before .before .before .before .before .before .before .before .args in isWhole (a .limit) (a .mode) (length (a .tones .now)) ≡ true
+whole-known : (c : tie.Else3) → let a = c .before .before .before .before .before .before .before .before .before .args in isWhole (a .limit) (a .mode) (length (a .tones .now)) ≡ true
 whole-known c = sym (c .before .is-whole .ensures) ∙ not-false (c .before .is-whole .result) (c .if3 .left)
 
 is-lead-requires : tie.Need-is-lead-requires
@@ -69,7 +69,7 @@ returns-3 c =
 
 mul-total : tie.Need-mul-total
 mul-total c =
-    let a = c .before .before .before .before .before .before .before .before .args in
+    let a = c .before .before .before .before .before .before .before .before .before .args in
     omega (arith, mul-le-mul-left (length (a .tones .now) / 64) (mode-range (a .mode) (mode-known (c .before .before .before .before)) .1))
 
 at-requires-4 : tie.Need-at-requires-4
@@ -81,20 +81,20 @@ returns-4 c =
     let l = w .before .before in
     refusal-told _ _ _ _ _ (c .at4 .ensures) (refuses-room _ _ _ _ _ (mode-known (l .before .before)) (lead-known l) (whole-known w) (c .before .if4 .taken))
 
-passed : (c : tie.Else4) → let a = c .before .before .before .before .before .before .before .before .before .args in Passed (a .limit) (a .mode) (a .least-lead) (length (a .tones .now)) (length (a .text .now))
+passed : (c : tie.Else4) → let a = c .before .before .before .before .before .before .before .before .before .before .args in Passed (a .limit) (a .mode) (a .least-lead) (length (a .tones .now)) (length (a .text .now))
 passed c =
     let w = c .before in
     let l = w .before .before in
     record { mode = mode-known (l .before .before); lead = lead-known l; whole = whole-known w; fits = c .if4 .left }
 
 -- the range check is by the mode's count of tones
-range : (c : tie.After-first-bad-tone) → let a = c .before .before .before .before .before .before .before .before .before .before .before .args in c .first-bad-tone .result ≡ firstBadTone (2 ^ a .mode) (a .tones .now)
+range : (c : tie.After-first-bad-tone) → let a = c .before .before .before .before .before .before .before .before .before .before .before .before .args in c .first-bad-tone .result ≡ firstBadTone (2 ^ a .mode) (a .tones .now)
 range c =
     let t = c .before in
-    let a = t .before .before .before .before .before .before .before .before .before .before .args in
+    let a = t .before .before .before .before .before .before .before .before .before .before .before .args in
     c .first-bad-tone .ensures ∙ ap (λ (limit : ℕ). firstBadTone limit (a .tones .now)) (t .tone-count .ensures ∙ mode-tones (a .mode) (passed (t .before) .mode))
 
-hearable : (c : tie.Else5) → let a = c .before .before .before .before .before .before .before .before .before .before .before .before .args in Hearable (a .limit) (a .mode) (a .least-lead) (a .tones .now) (length (a .text .now))
+hearable : (c : tie.Else5) → let a = c .before .before .before .before .before .before .before .before .before .before .before .before .before .args in Hearable (a .limit) (a .mode) (a .least-lead) (a .tones .now) (length (a .text .now))
 hearable c = record { passed = passed (c .before .before .before); in-range = rw (range (c .before)) at (c .if5 .left) }
 
 tone-count-requires : tie.Need-tone-count-requires
@@ -111,30 +111,30 @@ returns-5 c =
     let f = c .before .before in
     refusal-told _ _ _ _ _ (c .at5 .ensures ∙ ap (refusedAt 8) (range f)) (refuses-tone _ _ _ _ _ (passed (f .before .before)) (rw (range f) at (c .before .if5 .taken)))
 
-slice-aggregate-collect : tie.Need-slice-aggregate-collect
-slice-aggregate-collect c = search needs
-
 collect-requires : tie.Need-collect-requires
 collect-requires c κs =
-    let a = c .before .before .before .before .before .before .before .before .before .before .before .before .before .args in
+    let s = c .before .before .before .before .before .before .before .before .before .before .before .before .before .before in
+    let a = s .args in
     let h = hearable (c .before) in
     let m = mode-range (a .mode) (h .passed .mode) in
-    (h .passed .mode, h .passed .lead, whole-blocks (a .limit) (a .mode) (length (a .tones .now)) (h .passed .whole), h .in-range, omega (arith, m .1, whole-few (a .limit) (a .mode) (length (a .tones .now)) (h .passed .whole) (m .0)))
+    let whole = whole-blocks (a .limit) (a .mode) (length (a .tones .now)) (h .passed .whole) in
+    let few = whole-few (a .limit) (a .mode) (length (a .tones .now)) (h .passed .whole) (m .0) in
+    ((h .passed .mode, h .passed .lead), (whole, (h .in-range, omega (arith, m .1, few, s .pre .1, h .passed .fits))))
 
 -- what was collected, judged as the message's characters
-judged : (c : tie.After-collect) → let a = c .before .before .before .before .before .before .before .before .before .before .before .before .before .before .args in
+judged : (c : tie.After-collect) → let a = c .before .before .before .before .before .before .before .before .before .before .before .before .before .before .before .args in
     c .collect .result ≡ judgement (length (messageCharacters (a .mode) (a .tones .now))) (a .least-lead) (messageCharacters (a .mode) (a .tones .now))
 unfolding messageCharacters
 judged c =
-    let a = c .before .before .before .before .before .before .before .before .before .before .before .before .before .before .args in
+    let a = c .before .before .before .before .before .before .before .before .before .before .before .before .before .before .before .args in
     let count = length (a .tones .now) / 64 in
     c .collect .ensures .0 ∙ ap (λ (n : ℕ). judgement n (a .least-lead) (heardCharacters (a .mode) (a .tones .now) count)) (sym (heard-count (a .mode) (a .tones .now) count))
 
 -- the codes collected from accepted blocks
-collected : (c : tie.After-collect) {n : ℕ} → c .collect .result ≡ Text n → let a = c .before .before .before .before .before .before .before .before .before .before .before .before .before .before .args in
-    let count = length (a .tones .now) / 64 in c .collect .last .1 .1 .1 .1 .0 ≡ codesOf (heardCharacters (a .mode) (a .tones .now) count) ++ drop (count * a .mode) (replicate 1031 0)
+collected : (c : tie.After-collect) {n : ℕ} → c .collect .result ≡ Text n → let a = c .before .before .before .before .before .before .before .before .before .before .before .before .before .before .before .args in
+    let count = length (a .tones .now) / 64 in c .collect .last .1 .1 .1 .1 .0 ≡ codesOf (heardCharacters (a .mode) (a .tones .now) count) ++ drop (count * a .mode) (a .codes .now)
 collected c e =
-    let a = c .before .before .before .before .before .before .before .before .before .before .before .before .before .before .args in
+    let a = c .before .before .before .before .before .before .before .before .before .before .before .before .before .before .before .args in
     let size : length (messageCharacters (a .mode) (a .tones .now)) ≡ length (a .tones .now) / 64 * a .mode = message-count (a .mode) (a .tones .now) in
     c .collect .ensures .1 (e ∙ ap Text (told-clear (a .limit) (a .mode) (a .least-lead) (messageCharacters (a .mode) (a .tones .now)) (sym (judged c) ∙ e) .0 ∙ size))
 
@@ -149,9 +149,10 @@ part-deliver-start c = search needs
 
 part-deliver-end : tie.Need-part-deliver-end
 part-deliver-end c =
-    let d = c .before .before .before .before in
-    let a = d .before .before .before .before .before .before .before .before .before .before .before .before .before .before .args in
-    collected-fit (a .mode) (a .tones .now) (length (a .tones .now) / 64) _ _ (collected d (c .before .enum-told .given .1))
+    let d = c .before .before .before .before .before in
+    let e = c .before .enum-told .given .1 in
+    let a = d .before .before .before .before .before .before .before .before .before .before .before .before .before .before .before .args in
+    omega (arith, collected-fit (a .mode) (a .tones .now) (length (a .tones .now) / 64) (d .collect .last .1 .1 .1 .1 .0) _ (collected d e))
 
 deliver-requires : tie.Need-deliver-requires
 deliver-requires c κs = search needs
@@ -162,23 +163,32 @@ enum-told-2 c = search needs
 same-length : tie.Need-same-length
 same-length c = search needs
 
+same-length-2 : tie.Need-same-length-2
+same-length-2 c = search needs
+
+same-length-3 : tie.Need-same-length-3
+same-length-3 c = search needs
+
+-- a refusal leaves the output as it was
+returns-7 : tie.Need-returns-7
+returns-7 c =
+    let d = c .before .before .before .before in
+    let e = c .enum-told2 .given .1 in
+    let refused = judges _ _ _ _ _ (hearable (d .before .before)) ∙ told-unclear _ _ _ _ (sym (judged d) ∙ e) in
+    (e ∙ sym refused, sym (text-kept _ _ _ _ _ refused))
+
 returns-6 : tie.Need-returns-6
 unfolding messageCharacters
 returns-6 c =
     let v = c .before .before in
     let t = v .before .before .before .before in
-    let d = t .before .before .before in
-    let a = d .before .before .before .before .before .before .before .before .before .before .before .before .before .before .args in
-    let codes = collected-front (a .mode) (a .tones .now) (length (a .tones .now) / 64) (d .collect .last .1 .1 .1 .1 .0) _ (collected d (t .enum-told .given .1)) in
+    let d = t .before .before .before .before in
+    let e = t .enum-told .given .1 in
+    let a = d .before .before .before .before .before .before .before .before .before .before .before .before .before .before .before .args in
+    let codes = collected-front (a .mode) (a .tones .now) (length (a .tones .now) / 64) (d .collect .last .1 .1 .1 .1 .0) _ (collected d e) in
     judgement-told (a .limit) (a .mode) (a .least-lead) (a .tones .now) (a .text .now) codes
-    (judges _ _ _ _ _ (hearable (d .before .before)) ∙ told-clear _ _ _ _ (sym (judged d) ∙ t .enum-told .given .1) .1)
+    (judges _ _ _ _ _ (hearable (d .before .before)) ∙ told-clear _ _ _ _ (sym (judged d) ∙ e) .1)
     (v .deliver .ensures .0) (v .deliver .ensures .1)
-
-returns-7 : tie.Need-returns-7
-returns-7 c =
-    let d = c .before .before .before in
-    let refused = judges _ _ _ _ _ (hearable (d .before .before)) ∙ told-unclear _ _ _ _ (sym (judged d) ∙ c .enum-told2 .given .1) in
-    (c .enum-told2 .given .1 ∙ sym refused, sym (text-kept _ _ _ _ _ refused))
 
 pub decode-within-spec : {M : Type 1} → statement M
 decode-within-spec =
@@ -200,7 +210,6 @@ decode-within-spec =
     first-bad-tone-requires
     at-requires-5
     returns-5
-    slice-aggregate-collect
     collect-requires
     enum-told
     sub-deliver
@@ -209,5 +218,7 @@ decode-within-spec =
     deliver-requires
     enum-told-2
     same-length
+    same-length-2
     returns-6
+    same-length-3
     returns-7)

@@ -85,7 +85,7 @@ put-blocks-requires : tie.Need-put-blocks-requires
 put-blocks-requires c κs =
     let e = c .before .before .before in
     let s = sendable (c .before) in
-    (s .mode, s .codes, few (e .before), e .if3 .left)
+    (s .mode, (s .codes, (few (e .before), e .if3 .left)))
 
 mul-t12 : tie.Need-mul-t12
 mul-t12 c = search needs

@@ -1,11 +1,12 @@
-use mathlib.Core.Path.{_≡_, sym, _∙_}
-use mathlib.Core.Bool.{true, false}
+use mathlib.Core.Path.{_≡_, sym, _∙_, ap}
+use mathlib.Core.Bool.{true, false, not}
 use mathlib.Core.Logic.{⊎-elim}
 use Prim.Native.Nat.{_-_, _≤_}
 use lib.ListN.{length}
 use borrow.Author.Needs.{needs}
-use borrow.Author.Tests.{le-leb, lt-leb, ltb-true, ltb-false}
-use Rattle.block.specs.Lists.{scan}
+use borrow.Author.Tests.{ltb-true, ltb-false}
+use Rattle.refusal.proofs.Limits.{within-true, below-low, above-high}
+use Rattle.block.specs.Lists.{num, scan}
 use Rattle.block.proofs.Lists.{scan-start, scan-hit, scan-miss, scan-end}
 use Rattle.message.specs.Encoding.{badTextCode, firstBadTextCode}
 use Rattle.message.proofs.encode.first_bad_code.Statement.{statement}
@@ -27,8 +28,9 @@ shared-slice-read-code c = search needs
 returns : tie.Need-returns Inv-loop μ-loop
 returns c =
     let l = c .before .before .before in
+    let code = num (l .before .args .text .now) (l .loop .i) in
     let here : badTextCode (l .before .args .text .now) (l .loop .i) ≡ true =
-    ⊎-elim (λ w. rw (lt-leb _ _ (w .taken))) (λ w. rw (le-leb _ _ (w .0 .left), lt-leb _ _ (ltb-true _ _ (w .1 .taken)))) (c .if1 .came) in
+    ap not (⊎-elim (λ w. below-low 1 127 code (w .taken)) (λ w. above-high 1 127 code (ltb-true _ _ (w .1 .taken))) (c .if1 .came)) in
     sym (scan-hit _ (l .loop .i) _ (c .before .before .loop-test .taken) here) ∙ l .loop .inv .1
 
 add-i : tie.Need-add-i Inv-loop μ-loop
@@ -41,7 +43,7 @@ loop-again : tie.Need-loop-again Inv-loop μ-loop
 loop-again c =
     let l = c .before .before .before .before in
     let here : badTextCode (l .before .args .text .now) (l .loop .i) ≡ false =
-    rw (le-leb _ _ (c .before .if1 .left), le-leb _ _ (ltb-false _ _ (c .if2 .left))) in
+    ap not (within-true 1 127 (num (l .before .args .text .now) (l .loop .i)) (c .before .if1 .left) (ltb-false _ _ (c .if2 .left))) in
     (search needs, scan-miss _ (l .loop .i) _ (c .before .before .before .loop-test .taken) here ∙ l .loop .inv .1)
 
 returns-2 : tie.Need-returns-2 Inv-loop μ-loop

@@ -92,7 +92,7 @@ put c =
     let codes : take (a .mode - 0) (i .before .codes-from .result) ≡ blockCodes (a .mode) (a .text .now) (l .loop .k) =
     ap (take (a .mode - 0)) (i .before .codes-from .ensures) ∙ codes-handed (a .mode) (a .text .now) (l .loop .k) (l .loop .at) (l .loop .inv .1) in
     let part = take (64 * l .loop .k + 64 - 64 * l .loop .k) (drop (64 * l .loop .k) (l .loop .tones)) in
-    c .encode-block .ensures .1 ∙ ap (λ (x : List ℕ). encodedInto (a .mode) x part) codes ∙ block-written (a .mode) (a .text .now) (l .loop .k) part (s .pre .0) (s .pre .1) (part-length (l .loop .tones) (64 * l .loop .k) 64 (omega arith))
+    c .encode-block .ensures .1 ∙ ap (λ (x : List ℕ). encodedInto (a .mode) x part) codes ∙ block-written (a .mode) (a .text .now) (l .loop .k) part (s .pre .0) (s .pre .1 .0) (part-length (l .loop .tones) (64 * l .loop .k) 64 (omega arith))
 
 loop-again : tie.Need-loop-again Inv-loop μ-loop
 loop-again c =
