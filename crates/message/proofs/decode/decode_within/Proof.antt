@@ -130,6 +130,14 @@ judged c =
     let count = length (a .tones .now) / 64 in
     c .collect .ensures .0 ∙ ap (λ (n : ℕ). judgement n (a .least-lead) (heardCharacters (a .mode) (a .tones .now) count)) (sym (heard-count (a .mode) (a .tones .now) count))
 
+-- a refusal leaves the output as it was
+returns-7 : tie.Need-returns-7
+returns-7 c =
+    let d = c .before .before .before .before in
+    let e = c .enum-told2 .given .1 in
+    let refused = judges _ _ _ _ _ (hearable (d .before .before)) ∙ told-unclear _ _ _ _ (sym (judged d) ∙ e) in
+    (e ∙ sym refused, sym (text-kept _ _ _ _ _ refused))
+
 -- the codes collected from accepted blocks
 collected : (c : tie.After-collect) {n : ℕ} → c .collect .result ≡ Text n → let a = c .before .before .before .before .before .before .before .before .before .before .before .before .before .before .before .args in
     let count = length (a .tones .now) / 64 in c .collect .last .1 .1 .1 .1 .0 ≡ codesOf (heardCharacters (a .mode) (a .tones .now) count) ++ drop (count * a .mode) (a .codes .now)
@@ -168,14 +176,6 @@ same-length-2 c = search needs
 
 same-length-3 : tie.Need-same-length-3
 same-length-3 c = search needs
-
--- a refusal leaves the output as it was
-returns-7 : tie.Need-returns-7
-returns-7 c =
-    let d = c .before .before .before .before in
-    let e = c .enum-told2 .given .1 in
-    let refused = judges _ _ _ _ _ (hearable (d .before .before)) ∙ told-unclear _ _ _ _ (sym (judged d) ∙ e) in
-    (e ∙ sym refused, sym (text-kept _ _ _ _ _ refused))
 
 returns-6 : tie.Need-returns-6
 unfolding messageCharacters
