@@ -43,7 +43,7 @@ code-word : (w : ℕ) (s : Bool) → w < 64 → (wordOf (codeOf w s) ≡ w) × (
 code-word w false h = rw (lt-ltb w 64 h) (refl, refl)
 code-word w true h = rw (le-ltb (w + 64) 64 (omega arith)) (omega arith, refl)
 
-pub code-below : (w : ℕ) (s : Bool) → w < 64 → codeOf w s < 128
+code-below : (w : ℕ) (s : Bool) → w < 64 → codeOf w s < 128
 code-below w true h = omega arith
 code-below w false h = omega arith
 
@@ -84,7 +84,7 @@ module _ (b : ℕ) (tones : List ℕ) (low : 1 ≤ b) (high : b ≤ 8) (w : HasT
   unfolding characterAt
   clean-at q h = clean-counts (countIn b (symbolsOf tones) q) (count-within b (symbolsOf tones) q) (clean q h)
 
-  pub code-at : (q : ℕ) → q < b → num (decidedText b tones) q ≡ characterAt b tones q .code
+  code-at : (q : ℕ) → q < b → num (decidedText b tones) q ≡ characterAt b tones q .code
   unfolding decidedText
   code-at q h = tab-at (λ k. characterAt b tones k .code) 0 b q h
 

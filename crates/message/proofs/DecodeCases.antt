@@ -63,7 +63,7 @@ module _ (limit b m : ℕ) (tones : List ℕ) (room : ℕ) where
       simp (p .mode, p .lead, p .whole, le-ltb room (length tones / 64 * b) (p .fits), le-ltb (firstBadTone (2 ^ b) tones) (length tones) (h .in-range))
 
 module _ (limit b m : ℕ) (characters : List Character) where
-  pub heard-unclear : firstUnclear (length characters) m characters < length characters
+  heard-unclear : firstUnclear (length characters) m characters < length characters
       → heardJudgement limit b m characters
       ≡ Refused (unclearAt (firstUnclear (length characters) m characters) (leadIn characters (firstUnclear (length characters) m characters)))
   unfolding heardJudgement

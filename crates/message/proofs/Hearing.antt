@@ -143,7 +143,7 @@ module _ (b m : ℕ) (tones : List ℕ) (k : ℕ) (part : List ℕ) (s : IsSet b
 
 -- ---- the codes collected
 
-pub codes-length : (b : ℕ) (tones : List ℕ) (n : ℕ) → length (codesOf (heardCharacters b tones n)) ≡ n * b
+codes-length : (b : ℕ) (tones : List ℕ) (n : ℕ) → length (codesOf (heardCharacters b tones n)) ≡ n * b
 unfolding decidedText
 codes-length b tones n = ap length (heard-codes b tones n) ∙ joined-length (λ k. decidedText b (blockAt tones k)) b (λ k. tab-length (λ q. characterAt b (blockAt tones k) q .code) b) n
 
