@@ -1,5 +1,7 @@
 use mathlib.Core.Path.{_≡_, sym, _∙_, ap}
 use mathlib.Core.Bool.{true}
+use native.Mathlib.Omega.{arith}
+use lib.ListN.{length}
 use borrow.Author.Needs.{needs}
 use borrow.Author.Tests.{not-true, not-false}
 use Rattle.refusal.specs.Refused.{refusedAt}
@@ -35,7 +37,9 @@ at-requires-3 c κs = search needs
 
 returns-3 : tie.Need-returns-3
 returns-3 c =
-    refusal-told _ _ _ (c .at3 .ensures) (refuses-room _ _ _ (mode-known (c .before .before .before)) (c .before .before .if2 .left) (c .before .if3 .taken))
+    let a = c .before .before .before .before .before .before .before .args in
+    refusal-told _ _ _ (c .at3 .ensures)
+    (refuses-room (a .mode) (a .codes .now) (length (a .tones .now)) (mode-known (c .before .before .before)) (c .before .before .if2 .left) (omega (arith, c .before .if3 .taken)))
 
 first-bad-code-requires : tie.Need-first-bad-code-requires
 first-bad-code-requires c κs = search needs

@@ -2,6 +2,7 @@ use mathlib.Core.Path.{_≡_, sym, _∙_}
 use mathlib.Core.Bool.{true, false}
 use mathlib.Core.Logic.{inl, inr, ⊎-elim}
 use Prim.Native.Nat.{_≤_, _-_}
+use native.Mathlib.Omega.{arith}
 use lib.ListN.{length}
 use borrow.Author.Needs.{needs}
 use borrow.Author.Tests.{eqb-true, not-false}
@@ -34,7 +35,7 @@ returns c =
     let l = c .before .before .before .before in
     let s = l .before in
     let here : badTone (s .args .limit) (s .args .tones .now) (l .loop .t) ≡ true =
-    bad-tone (s .args .limit) (num (s .args .tones .now) (l .loop .t)) (c .before .if1 .taken) (c .if2 .taken) in
+    bad-tone (s .args .limit) (num (s .args .tones .now) (l .loop .t)) (omega (arith, c .before .if1 .taken)) (c .if2 .taken) in
     sym (scan-hit _ (l .loop .t) _ (c .before .before .before .loop-test .taken) here) ∙ l .loop .inv .1
 
 add-t : tie.Need-add-t Inv-loop μ-loop

@@ -1,9 +1,10 @@
 use mathlib.Core.Path.{_≡_, sym, _∙_}
 use Prim.Native.Nat.{_-_, _≤_}
+use native.Mathlib.Omega.{arith}
 use lib.ListN.{length}
 use borrow.Author.Needs.{needs}
 use borrow.Author.Tests.{le-leb, lt-leb}
-use Rattle.block.specs.Lists.{scan}
+use Rattle.block.specs.Lists.{num, scan}
 use Rattle.block.specs.Encoding.{badCode, firstBadCode}
 use Rattle.block.proofs.Lists.{scan-start, scan-hit, scan-miss, scan-end}
 use Rattle.block.proofs.encode.first_bad_code.Statement.{statement}
@@ -25,7 +26,8 @@ shared-slice-read-if1 c = search needs
 returns : tie.Need-returns Inv-loop μ-loop
 returns c =
     let l = c .before .before .before .loop in
-    sym (scan-hit _ (l .q) _ (c .before .before .loop-test .taken) (le-leb _ _ (c .if1 .taken))) ∙ l .inv .1
+    let codes = c .before .before .before .before .args .codes .now in
+    sym (scan-hit (badCode codes) (l .q) _ (c .before .before .loop-test .taken) (le-leb 128 (num codes (l .q)) (omega (arith, c .if1 .taken)))) ∙ l .inv .1
 
 add-q : tie.Need-add-q Inv-loop μ-loop
 add-q c = search needs

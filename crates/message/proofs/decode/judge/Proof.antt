@@ -45,7 +45,10 @@ at-requires-2 c κs = search needs
 returns-2 : tie.Need-returns-2
 returns-2 c =
     let l = c .before .before in
-    ap Refused (c .at2 .ensures) ∙ sym (refuses-filling _ _ _ _ (l .before .before .text-end .ensures) (no-zero-known l) (c .before .if2 .taken))
+    let t = l .before .before in
+    let a = t .before .before .args in
+    ap Refused (c .at2 .ensures)
+    ∙ sym (refuses-filling (a .limit) (a .mode) (a .codes .now) (t .text-end .result) (t .text-end .ensures) (no-zero-known l) (omega (arith, c .before .if2 .taken)))
 
 at-requires-3 : tie.Need-at-requires-3
 at-requires-3 c κs = search needs
