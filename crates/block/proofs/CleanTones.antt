@@ -31,7 +31,8 @@ use Rattle.block.proofs.GrayCodes.{gray-code, symbol-below, symbol-mark
 use Rattle.block.proofs.Interleaving.{symbol-from-bits}
 use Rattle.block.proofs.EncodeCases.{tones-written}
 use Rattle.block.proofs.DecodeCases.{Accepted, accepted, judges, codes-written}
-use Rattle.block.proofs.Ranges.{mode-range, lead-range, in-range-tones}
+use Rattle.refusal.proofs.Limits.{mode-range, lead-range}
+use Rattle.block.proofs.Ranges.{in-range-tones}
 use Rattle.block.proofs.Hearings.{wordOf, signOf, sent-code, count-missing, count-present, count-within, heard-missing, heard-present, symbol-heard}
 use Rattle.block.proofs.Agreement.{CleanCounts, clean-counts}
 use Rattle.block.proofs.Answers.{character-in}

@@ -3,7 +3,7 @@ use mathlib.Core.Path.{_≡_, refl}
 use mathlib.Core.Bool.{Bool, true, false, not, _&&_}
 use mathlib.Core.List.{List}
 use mathlib.Core.Logic.{_⊎_, inl, inr, ⊎-elim}
-use Prim.Native.Nat.{ℕ, _<_, _≤_, _%_, _^_}
+use Prim.Native.Nat.{ℕ, _<_, _≤_, _^_}
 use native.Mathlib.Nat.{lt-of-lt-of-le}
 use native.Mathlib.Omega.{arith}
 use borrow.Author.Tests.{leb-false, eqb-true, le-leb, lt-leb, eq-eqb}
@@ -12,7 +12,7 @@ use lib.ListN.{length}
 use lib.Pow.{pow-mono}
 use Rattle.block.specs.Lists.{num}
 use Rattle.refusal.specs.Checks.{isMode, isLead}
-use Rattle.refusal.proofs.Limits.{within-true, within-range}
+use Rattle.refusal.proofs.Limits.{within-true}
 use Rattle.block.specs.Encoding.{badCode, firstBadCode}
 use Rattle.block.specs.Decoding.{missingMark, HasTones, badTone, firstBadTone}
 use Rattle.block.specs.Demand.{IsText, IsSet}
@@ -25,18 +25,6 @@ is-mode b m s = within-true 1 8 b (s .mode-low) (s .mode-high)
 
 pub is-lead : (b m : ℕ) → IsSet b m → isLead m ≡ true
 is-lead b m s = within-true 1 64 m (s .lead-low) (s .lead-high)
-
-pub mode-range : (b : ℕ) → isMode b ≡ true → (1 ≤ b) × (b ≤ 8)
-mode-range b e = within-range 1 8 b e
-
-pub mode-tones : (b : ℕ) → isMode b ≡ true → 2 ^ (b % 16) ≡ 2 ^ b
-mode-tones b e =
-    let small : b ≤ 8 = mode-range b e .1 in
-    let same : b % 16 ≡ b = omega arith in
-    rw same
-
-pub lead-range : (m : ℕ) → isLead m ≡ true → (1 ≤ m) × (m ≤ 64)
-lead-range m e = within-range 1 64 m e
 
 -- ---- codes
 

@@ -14,7 +14,7 @@ use Rattle.block.specs.Chain.{tonesOf}
 use Rattle.block.specs.Decoding.{HasTones, leadIn, characterAt}
 use Rattle.block.specs.declared.Encoded.the-variants.{Tones}
 use Rattle.block.specs.declared.Decoded.the-variants.{Text}
-use Rattle.block.proofs.Ranges.{mode-range}
+use Rattle.refusal.proofs.Limits.{mode-range}
 use Rattle.block.proofs.CleanTones.{decidedText, clean-text, clean-tones}
 use Rattle.message.specs.Blocks.{joined, blockCount, blockAt}
 use Rattle.message.specs.Encoding.{blockCodes, sentTones, encodeMessage}

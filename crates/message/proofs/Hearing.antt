@@ -21,7 +21,7 @@ use Rattle.block.specs.declared.BlockDecoded.{BlockDecoded}
 use Rattle.block.specs.Decoding.{HasTones, characterAt, charactersOf, codeIn, leadIn, firstUnclear, judgement, decodeBlock, decodedInto}
 use Rattle.block.specs.Demand.{IsSet, RefusesAsUnclear}
 use Rattle.block.proofs.Lists.{scan-none, scan-at, filled-whole, tab-ext}
-use Rattle.block.proofs.Ranges.{mode-range, lead-range}
+use Rattle.refusal.proofs.Limits.{mode-range, lead-range}
 use Rattle.block.proofs.DecodeCases.{accepted, judged-unclear, judged-clear, codes-written}
 use Rattle.block.proofs.Answers.{character-in, decided, refuses, accepts, clear-lead}
 use Rattle.block.proofs.CleanTones.{decidedText}

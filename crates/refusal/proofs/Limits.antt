@@ -1,11 +1,11 @@
 -- A number within limits, by the tests and as a number.
 use mathlib.Core.Path.{_≡_, refl}
 use mathlib.Core.Bool.{Bool, true, false, _&&_}
-use Prim.Native.Nat.{ℕ, _<_, _≤_}
+use Prim.Native.Nat.{ℕ, _<_, _≤_, _%_, _^_}
 use native.Mathlib.Omega.{arith}
 use borrow.Author.Tests.{leb-true, le-leb, lt-leb}
 use lib.Dec.{leb}
-use Rattle.refusal.specs.Checks.{within}
+use Rattle.refusal.specs.Checks.{within, isMode, isLead}
 
 module _ (low high n : ℕ) where
   pub within-rest : low ≤ n → leb n high ≡ within low high n
@@ -31,3 +31,17 @@ module _ (low high n : ℕ) where
       by true p true q e = (leb-true low n p, leb-true n high q)
       by true p false q e = let z : _≡_ {A = ℕ} 0 1 = cc in absurd (omega arith)
       by false p t q e = let z : _≡_ {A = ℕ} 0 1 = cc in absurd (omega arith)
+
+-- ---- settings
+
+pub mode-range : (b : ℕ) → isMode b ≡ true → (1 ≤ b) × (b ≤ 8)
+mode-range b e = within-range 1 8 b e
+
+pub mode-tones : (b : ℕ) → isMode b ≡ true → 2 ^ (b % 16) ≡ 2 ^ b
+mode-tones b e =
+    let small : b ≤ 8 = mode-range b e .1 in
+    let same : b % 16 ≡ b = omega arith in
+    rw same
+
+pub lead-range : (m : ℕ) → isLead m ≡ true → (1 ≤ m) × (m ≤ 64)
+lead-range m e = within-range 1 64 m e

@@ -7,7 +7,8 @@ use Prim.Native.Nat.{ℕ, _^_}
 use Rattle.refusal.specs.Checks.{isMode, isLead}
 use Rattle.block.specs.Decoding.{firstBadTone, refused}
 use Rattle.block.proofs.DecodeCases.{Passed, refuses-mode, refuses-lead, refuses-count, refuses-room, refuses-tone, judges, same-decoded}
-use Rattle.block.proofs.Ranges.{mode-range, mode-tones, in-range-tones, byte-tones}
+use Rattle.refusal.proofs.Limits.{mode-range, mode-tones}
+use Rattle.block.proofs.Ranges.{in-range-tones, byte-tones}
 use Rattle.block.proofs.decide_block.Statement.{statement}
 use Rattle.block.proofs.decide_block.Tie as tie
 

@@ -3,7 +3,7 @@ use native.Mathlib.Omega.{arith}
 use borrow.Author.Needs.{needs}
 use Rattle.block.specs.declared.BlockDecoded.{BlockDecoded}
 use Rattle.block.proofs.DecodeCases.{accepted, codes-kept, codes-written, decided-into}
-use Rattle.block.proofs.Ranges.{mode-range}
+use Rattle.refusal.proofs.Limits.{mode-range}
 use Rattle.block.proofs.decode_block.Statement.{statement}
 use Rattle.block.proofs.decode_block.Tie as tie
 

@@ -7,7 +7,7 @@ use borrow.Author.Tests.{not-true, not-false}
 use Rattle.refusal.specs.Refused.{refusedAt}
 use Rattle.refusal.specs.Checks.{isMode}
 use Rattle.block.proofs.EncodeCases.{refuses-mode, refuses-count, refuses-room, refuses-code, encodes, tones-written, refusal-told}
-use Rattle.block.proofs.Ranges.{mode-range}
+use Rattle.refusal.proofs.Limits.{mode-range}
 use Rattle.block.proofs.encode_block.Statement.{statement}
 use Rattle.block.proofs.encode_block.Tie as tie
 

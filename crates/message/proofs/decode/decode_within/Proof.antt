@@ -11,7 +11,7 @@ use Rattle.refusal.specs.Checks.{isMode, isLead}
 use Rattle.block.specs.Decoding.{judgement, firstBadTone}
 use Rattle.block.specs.declared.Decoded.the-variants.{Text}
 use mathlib.Core.List.{_++_}
-use Rattle.block.proofs.Ranges.{mode-range, mode-tones}
+use Rattle.refusal.proofs.Limits.{mode-range, mode-tones}
 use Rattle.message.specs.Blocks.{isWhole}
 use Rattle.message.specs.Decoding.{heardCharacters, codesOf, messageCharacters}
 use Rattle.message.proofs.HeardBlocks.{heard-count, message-count}

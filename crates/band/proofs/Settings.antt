@@ -1,0 +1,101 @@
+-- The checks for frequencies, as tests and as numbers.
+use mathlib.Core.Path.{_≡_, refl}
+use mathlib.Core.Bool.{Bool, true, false, cond, not, _&&_, _||_}
+use Prim.Native.Nat.{ℕ, _*_, _^_, _<_, _≤_}
+use native.Mathlib.Omega.{arith}
+use borrow.Author.Tests.{leb-true, eqb-true, ltb-true, lt-ltb}
+use lib.Dec.{leb, ltb, eqb}
+use lib.Pow.{pow-pos}
+use Rattle.refusal.specs.Checks.{isMode}
+use Rattle.refusal.proofs.Limits.{mode-range}
+use Rattle.band.specs.Limits.{isWidth, isCentre, faultIn}
+
+-- ---- the first check that fails
+
+module _ (b w c n : ℕ) where
+  pub fault-mode : isMode b ≡ false → faultIn b w c n ≡ 1
+  unfolding faultIn
+  fault-mode m = rw m
+
+  pub fault-width : isMode b ≡ true → isWidth w ≡ false → faultIn b w c n ≡ 3
+  unfolding faultIn
+  fault-width m e = rw (m, e)
+
+  pub fault-centre : isMode b ≡ true → isWidth w ≡ true → isCentre w c ≡ false → faultIn b w c n ≡ 4
+  unfolding faultIn
+  fault-centre m e k = rw (m, e, k)
+
+  pub fault-tone : isMode b ≡ true → isWidth w ≡ true → isCentre w c ≡ true → ltb n (2 ^ b) ≡ false → faultIn b w c n ≡ 8
+  unfolding faultIn
+  fault-tone m e k t = rw (m, e, k, t)
+
+  pub fault-none : isMode b ≡ true → isWidth w ≡ true → isCentre w c ≡ true → ltb n (2 ^ b) ≡ true → faultIn b w c n ≡ 0
+  unfolding faultIn
+  fault-none m e k t = rw (m, e, k, t)
+
+-- ---- no check fails
+
+pub record Passed (b w c n : ℕ) : Type 0 where
+  pub mode : isMode b ≡ true
+  pub width : isWidth w ≡ true
+  pub centre : isCentre w c ≡ true
+  pub tone : ltb n (2 ^ b) ≡ true
+
+pub passed : (b w c n : ℕ) → faultIn b w c n ≡ 0 → Passed b w c n
+unfolding faultIn
+passed b w c n e = by (isMode b) refl (isWidth w) refl (isCentre w c) refl (ltb n (2 ^ b)) refl e
+  where
+    by : (p : Bool) → isMode b ≡ p → (q : Bool) → isWidth w ≡ q → (r : Bool) → isCentre w c ≡ r → (s : Bool) → ltb n (2 ^ b) ≡ s
+        → _≡_ {A = ℕ} (cond (not p) 1 (cond (not q) 3 (cond (not r) 4 (cond (not s) 8 0)))) 0 → Passed b w c n
+    by true m true w true k true t e = record { mode = m; width = w; centre = k; tone = t }
+    by true m true w true k false t e = absurd (omega (arith, e))
+    by true m true w false k s t e = absurd (omega (arith, e))
+    by true m false w r k s t e = absurd (omega (arith, e))
+    by false m q w r k s t e = absurd (omega (arith, e))
+
+pub tone-0 : (b w c n : ℕ) → faultIn b w c n ≡ 0 → faultIn b w c 0 ≡ 0
+tone-0 b w c n e =
+    let p = passed b w c n e in
+    fault-none b w c 0 (p .mode) (p .width) (p .centre) (lt-ltb 0 (2 ^ b) (pow-pos b))
+
+width-range : (w : ℕ) → isWidth w ≡ true → w ≤ 2000
+width-range w e = by (eqb w 125) refl (eqb w 250) refl (eqb w 500) refl (eqb w 1000) refl (eqb w 2000) refl e
+  where
+    by : (p : Bool) → eqb w 125 ≡ p → (q : Bool) → eqb w 250 ≡ q → (r : Bool) → eqb w 500 ≡ r → (s : Bool) → eqb w 1000 ≡ s
+        → (t : Bool) → eqb w 2000 ≡ t → p || q || r || s || t ≡ true → w ≤ 2000
+    by true p _ q _ r _ s _ t e = omega (arith, eqb-true w 125 p)
+    by false p true q _ r _ s _ t e = omega (arith, eqb-true w 250 q)
+    by false p false q true r _ s _ t e = omega (arith, eqb-true w 500 r)
+    by false p false q false r true s _ t e = omega (arith, eqb-true w 1000 s)
+    by false p false q false r false s true t e = omega (arith, eqb-true w 2000 t)
+    by false p false q false r false s false t e = let z : _≡_ {A = ℕ} 0 1 = cc in absurd (omega arith)
+
+centre-range : (w c : ℕ) → isCentre w c ≡ true → (c ≤ 10000) × (w ≤ 2 * c)
+centre-range w c e = by (leb c 10000) refl (leb w (2 * c)) refl e
+  where
+    by : (s : Bool) → leb c 10000 ≡ s → (t : Bool) → leb w (2 * c) ≡ t → s && t ≡ true → (c ≤ 10000) × (w ≤ 2 * c)
+    by true p true q e = (leb-true c 10000 p, leb-true w (2 * c) q)
+    by true p false q e = let z : _≡_ {A = ℕ} 0 1 = cc in absurd (omega arith)
+    by false p t q e = let z : _≡_ {A = ℕ} 0 1 = cc in absurd (omega arith)
+
+-- the limits as numbers
+pub record Within (b w c n : ℕ) : Type 0 where
+  pub mode-low : 1 ≤ b
+  pub mode-high : b ≤ 8
+  pub width-high : w ≤ 2000
+  pub centre-high : c ≤ 10000
+  pub centre-low : w ≤ 2 * c
+  pub tone-high : n < 2 ^ b
+
+pub within : (b w c n : ℕ) → faultIn b w c n ≡ 0 → Within b w c n
+within b w c n e =
+    let p = passed b w c n e in
+    let centre = centre-range w c (p .centre) in
+    record {
+      mode-low = mode-range b (p .mode) .0;
+      mode-high = mode-range b (p .mode) .1;
+      width-high = width-range w (p .width);
+      centre-high = centre .0;
+      centre-low = centre .1;
+      tone-high = ltb-true n (2 ^ b) (p .tone);
+    }

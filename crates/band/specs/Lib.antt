@@ -1,0 +1,4 @@
+pub mod Exact
+pub mod Limits
+pub mod Frequencies
+pub mod Laws
