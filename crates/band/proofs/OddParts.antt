@@ -1,12 +1,11 @@
 -- A value that a format holds is written in one way, with an odd significand: two that are the same fraction are one.
-use mathlib.Core.Path.{_≡_, refl, sym, ap, _∙_, subst}
+use mathlib.Core.Path.{_≡_, refl, sym, ap, _∙_}
 use mathlib.Core.Bool.{Bool, _&&_}
 use Prim.Native.Nat.{ℕ, zero, suc, pred, _*_, _%_, _^_, _<_}
-use native.Mathlib.Nat.{mul-one, one-mul, zero-mul, mul-assoc, mul-right-comm, mul-pos, pow-suc, zero-lt-suc, eq-of-mul-eq-mul-right}
+use native.Mathlib.Nat.{mul-one, zero-mul, mul-assoc, mul-right-comm, mul-pos, pow-suc, zero-lt-suc, eq-of-mul-eq-mul-right}
 use native.Mathlib.Omega.{arith}
 use lib.Dec.{T, eqb, leb, ltb, eqb→eq}
 use lib.IntN.{ℤ, pos, negsuc}
-use lib.Pow.{pow-pos}
 use lib.Ieee.{Float, nan, inf, fin, Format, prec, emax, low, up, down, fits}
 use lib.Ieee.Exact.{HasValue}
 use lib.Ieee.Fits.{and-l, up-pos, down-pos}

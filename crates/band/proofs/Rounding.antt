@@ -1,11 +1,10 @@
 -- Sums, differences, products and quotients of floats that are not negative, by fractions that they equal: the exact result, rounded once.
-use mathlib.Core.Path.{_≡_, refl, sym, ap, ap₂, _∙_, subst}
-use mathlib.Core.Bool.{Bool, true, false, cond, true≢false}
-use Prim.Native.Nat.{ℕ, zero, suc, _+_, _-_, _*_, _<_, _≤_}
-use native.Mathlib.Nat.{mul-comm, mul-assoc, mul-right-comm, mul-mul-mul-comm, mul-sub, add-mul, mul-pos, mul-le-mul-right, lt-irrefl}
+use mathlib.Core.Path.{_≡_, sym, ap, ap₂, _∙_, subst}
+use mathlib.Core.Bool.{true, false, true≢false}
+use Prim.Native.Nat.{ℕ, _+_, _-_, _*_, _<_, _≤_}
+use native.Mathlib.Nat.{mul-comm, mul-assoc, mul-right-comm, mul-mul-mul-comm, mul-sub, add-mul, mul-pos, mul-le-mul-right}
 use native.Mathlib.Omega.{arith}
 use borrow.Author.Tests.{le-ltb, ne-eqb}
-use lib.Dec.{ltb, eqb}
 use lib.IntN.{ℤ}
 use lib.Ieee.{Float, nan, inf, fin, Format, up, down, round, neg, sum, add, sub, mul, div}
 use lib.Ieee.Exact.{HasValue}

@@ -1,9 +1,9 @@
 -- The f64 numbers k / 512: nothing else has their value (law `Exact`), and the f64 operations on them are exact (law `Steps`).
 use mathlib.Core.Path.{_≡_, refl, sym, ap, _∙_, subst}
-use mathlib.Core.Bool.{Bool, true, false}
+use mathlib.Core.Bool.{false}
 use Prim.Native.Nat.{ℕ, zero, suc, _+_, _-_, _*_, _/_, _^_, _<_, _≤_}
 use native.Mathlib.Decide.{decLe}
-use native.Mathlib.Nat.{mul-comm, mul-assoc, mul-one, mul-pos, le-of-lt, lt-of-lt-of-le}
+use native.Mathlib.Nat.{mul-assoc, mul-one, mul-pos, le-of-lt, lt-of-lt-of-le}
 use native.Mathlib.Omega.{arith}
 use borrow.Author.Tests.{le-leb, lt-leb}
 use lib.Count.{trailingZeros}

@@ -1,62 +1,46 @@
 -- The checks for frequencies, as tests and as numbers.
-use mathlib.Core.Path.{_≡_, refl}
+use mathlib.Core.Path.{_≡_, refl, sym}
 use mathlib.Core.Bool.{Bool, true, false, cond, not, _&&_, _||_}
-use Prim.Native.Nat.{ℕ, _*_, _^_, _<_, _≤_}
+use Prim.Native.Nat.{ℕ, _*_, _%_, _^_, _≤_}
 use native.Mathlib.Omega.{arith}
-use borrow.Author.Tests.{leb-true, eqb-true, ltb-true, lt-ltb}
+use borrow.Author.Tests.{leb-true, eqb-true, lt-ltb}
 use lib.Dec.{leb, ltb, eqb}
 use lib.Pow.{pow-pos}
 use Rattle.refusal.specs.Checks.{isMode}
-use Rattle.refusal.proofs.Limits.{mode-range}
-use Rattle.band.specs.Limits.{isWidth, isCentre, faultIn}
+use Rattle.refusal.proofs.Limits.{mode-range, mode-tones}
+use Rattle.band.specs.Limits.{isWidth, isCentre, fault}
 
--- ---- the first check that fails
+-- ---- the first check that fails, from the four tests
 
-module _ (b w c n : ℕ) where
-  pub fault-mode : isMode b ≡ false → faultIn b w c n ≡ 1
-  unfolding faultIn
-  fault-mode m = rw m
-
-  pub fault-width : isMode b ≡ true → isWidth w ≡ false → faultIn b w c n ≡ 3
-  unfolding faultIn
-  fault-width m e = rw (m, e)
-
-  pub fault-centre : isMode b ≡ true → isWidth w ≡ true → isCentre w c ≡ false → faultIn b w c n ≡ 4
-  unfolding faultIn
-  fault-centre m e k = rw (m, e, k)
-
-  pub fault-tone : isMode b ≡ true → isWidth w ≡ true → isCentre w c ≡ true → ltb n (2 ^ b) ≡ false → faultIn b w c n ≡ 8
-  unfolding faultIn
-  fault-tone m e k t = rw (m, e, k, t)
-
-  pub fault-none : isMode b ≡ true → isWidth w ≡ true → isCentre w c ≡ true → ltb n (2 ^ b) ≡ true → faultIn b w c n ≡ 0
-  unfolding faultIn
-  fault-none m e k t = rw (m, e, k, t)
+pub first-fault : (b w c n : ℕ) (p q r s : Bool) → p ≡ isMode b → q ≡ isWidth w → r ≡ isCentre w c → s ≡ ltb n (2 ^ (b % 16))
+    → cond (not p) 1 (cond (not q) 3 (cond (not r) 4 (cond (not s) 8 0))) ≡ fault b w c n
+unfolding fault
+first-fault b w c n false q r s m h k t = rw (← m)
+first-fault b w c n true q r s m h k t = rw (← m, h, k, t, mode-tones b (sym m))
 
 -- ---- no check fails
 
-pub record Passed (b w c n : ℕ) : Type 0 where
+pub record Passed (b w c : ℕ) : Type 0 where
   pub mode : isMode b ≡ true
   pub width : isWidth w ≡ true
   pub centre : isCentre w c ≡ true
-  pub tone : ltb n (2 ^ b) ≡ true
 
-pub passed : (b w c n : ℕ) → faultIn b w c n ≡ 0 → Passed b w c n
-unfolding faultIn
-passed b w c n e = by (isMode b) refl (isWidth w) refl (isCentre w c) refl (ltb n (2 ^ b)) refl e
+pub passed : (b w c n : ℕ) → fault b w c n ≡ 0 → Passed b w c
+unfolding fault
+passed b w c n e = by (isMode b) refl (isWidth w) refl (isCentre w c) refl e
   where
-    by : (p : Bool) → isMode b ≡ p → (q : Bool) → isWidth w ≡ q → (r : Bool) → isCentre w c ≡ r → (s : Bool) → ltb n (2 ^ b) ≡ s
-        → _≡_ {A = ℕ} (cond (not p) 1 (cond (not q) 3 (cond (not r) 4 (cond (not s) 8 0)))) 0 → Passed b w c n
-    by true m true w true k true t e = record { mode = m; width = w; centre = k; tone = t }
-    by true m true w true k false t e = absurd (omega (arith, e))
-    by true m true w false k s t e = absurd (omega (arith, e))
-    by true m false w r k s t e = absurd (omega (arith, e))
-    by false m q w r k s t e = absurd (omega (arith, e))
+    by : (p : Bool) → isMode b ≡ p → (q : Bool) → isWidth w ≡ q → (r : Bool) → isCentre w c ≡ r
+        → _≡_ {A = ℕ} (cond (not p) 1 (cond (not q) 3 (cond (not r) 4 (cond (not (ltb n (2 ^ b))) 8 0)))) 0 → Passed b w c
+    by true m true h true k e = record { mode = m; width = h; centre = k }
+    by true m true h false k e = absurd (omega (arith, e))
+    by true m false h r k e = absurd (omega (arith, e))
+    by false m q h r k e = absurd (omega (arith, e))
 
-pub tone-0 : (b w c n : ℕ) → faultIn b w c n ≡ 0 → faultIn b w c 0 ≡ 0
+pub tone-0 : (b w c n : ℕ) → fault b w c n ≡ 0 → fault b w c 0 ≡ 0
+unfolding fault
 tone-0 b w c n e =
     let p = passed b w c n e in
-    fault-none b w c 0 (p .mode) (p .width) (p .centre) (lt-ltb 0 (2 ^ b) (pow-pos b))
+    rw (p .mode, p .width, p .centre, lt-ltb 0 (2 ^ b) (pow-pos b))
 
 width-range : (w : ℕ) → isWidth w ≡ true → w ≤ 2000
 width-range w e = by (eqb w 125) refl (eqb w 250) refl (eqb w 500) refl (eqb w 1000) refl (eqb w 2000) refl e
@@ -79,15 +63,14 @@ centre-range w c e = by (leb c 10000) refl (leb w (2 * c)) refl e
     by false p t q e = let z : _≡_ {A = ℕ} 0 1 = cc in absurd (omega arith)
 
 -- the limits as numbers
-pub record Within (b w c n : ℕ) : Type 0 where
+pub record Within (b w c : ℕ) : Type 0 where
   pub mode-low : 1 ≤ b
   pub mode-high : b ≤ 8
   pub width-high : w ≤ 2000
   pub centre-high : c ≤ 10000
   pub centre-low : w ≤ 2 * c
-  pub tone-high : n < 2 ^ b
 
-pub within : (b w c n : ℕ) → faultIn b w c n ≡ 0 → Within b w c n
+pub within : (b w c n : ℕ) → fault b w c n ≡ 0 → Within b w c
 within b w c n e =
     let p = passed b w c n e in
     let centre = centre-range w c (p .centre) in
@@ -97,5 +80,4 @@ within b w c n e =
       width-high = width-range w (p .width);
       centre-high = centre .0;
       centre-low = centre .1;
-      tone-high = ltb-true n (2 ^ b) (p .tone);
     }

@@ -4,7 +4,7 @@ use refusal::checks;
 ghost use mathlib.Core.Path.{_≡_};
 ghost use Prim.Native.Nat.{_%_, _^_};
 ghost use lib.Dec.{ltb};
-ghost use Rattle.band.specs.Limits.{isWidth, isCentre, faultIn};
+ghost use Rattle.band.specs.Limits.{isWidth, isCentre, fault};
 ghost use Rattle.band.specs.Frequencies.{bandOf, plan, frequencyOf, ToneOf};
 
 pub mod laws;
@@ -35,6 +35,7 @@ impl Band {
     pub fn new(mode: u32, width: u32, centre: u32) -> Planned
         ensures { λ r. ⌜ r ≡ plan mode width centre ⌝ }
     {
+        // Tone 0 is one of every mode.
         let number = fault(mode, width, centre, 0);
         if number != NONE {
             return Planned::Refused(Refusal::at(number, 0));
@@ -64,7 +65,7 @@ pub fn frequency(mode: u32, width: u32, centre: u32, tone: u16) -> Tuned
 
 // The number of the first check that fails: 1, 3, 4, 8.
 fn fault(mode: u32, width: u32, centre: u32, tone: u16) -> u8
-    ensures { λ r. ⌜ r ≡ faultIn mode width centre tone ⌝ }
+    ensures { λ r. ⌜ r ≡ fault mode width centre tone ⌝ }
 {
     let mode_fits = checks::is_mode(mode);
     let width_fits = is_width(width);
@@ -107,7 +108,7 @@ fn is_tone(mode: u32, tone: u16) -> bool
 }
 
 fn band_of(mode: u32, width: u32, centre: u32) -> Band
-    requires { ⌜ faultIn mode width centre 0 ≡ 0 ⌝ }
+    requires { ⌜ fault mode width centre 0 ≡ 0 ⌝ }
     ensures { λ r. ⌜ r ≡ bandOf mode width centre ⌝ }
 {
     let centre_hz = centre as f64;

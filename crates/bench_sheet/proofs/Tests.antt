@@ -1,0 +1,131 @@
+-- A test of a row, and the law that turns it into what the row says.
+use mathlib.Core.Path.{_≡_, refl, ap, ap₂}
+use mathlib.Core.Bool.{Bool, true, false, _&&_}
+use mathlib.Core.List.{List, [], _∷_}
+use Prim.Native.Nat.{ℕ, _+_, _*_}
+use lib.Dec.{T, eqb, eqb→eq}
+use lib.ListN.{length, take, replicate}
+use lib.Ieee.{Float, nan, inf, fin, up, down}
+use lib.Ieee.Exact.{HasValue}
+use lib.Ieee.Fits.{and-l, and-r}
+use Rattle.refusal.specs.Refused.{unclearAt}
+use Rattle.block.specs.Encoding.{encodedInto}
+use Rattle.block.specs.Decoding.{symbolOf, charactersOf, codeIn, leadIn, decodeBlock}
+use Rattle.block.specs.Demand.{replacedIn, missingIn}
+use Rattle.block.specs.declared.BlockDecoded.{BlockDecoded}
+use Rattle.block.specs.declared.Decoded.{Decoded}
+use Rattle.block.specs.declared.Decoded.the-variants as decoded
+use Rattle.band.specs.Frequencies.{frequencyOf}
+use Rattle.band.specs.declared.Tuned.{Tuned}
+use Rattle.band.specs.declared.Tuned.the-variants as tuned
+use Rattle.bench_sheet.specs.Heard.{case-1, Accepts}
+use Rattle.bench_sheet.specs.Sheet.{Row, b=_codes_first-tones_, tone_is-symbol_, _r=_u=_, _m=_accepts-code_lead_, _m=_refuses-10-place_lead_, _has-lead_, _just-beyond-demand-3-at-m=_, b=_B_centre_tone_at_thousandths, Holds, Each}
+
+-- ---- lists of numbers
+
+abbrev same : List ℕ → List ℕ → Bool
+same [] [] = true
+same [] (y ∷ ys) = false
+same (x ∷ xs) [] = false
+same (x ∷ xs) (y ∷ ys) = eqb x y && same xs ys
+
+same-lists : (xs ys : List ℕ) → T (same xs ys) → xs ≡ ys
+same-lists [] [] t = refl
+same-lists [] (y ∷ ys) t = absurd t
+same-lists (x ∷ xs) [] t = absurd t
+same-lists (x ∷ xs) (y ∷ ys) t =
+    ap₂ (λ (z : ℕ) (zs : List ℕ). z ∷ zs) (eqb→eq x y (and-l (eqb x y) (same xs ys) t)) (same-lists xs ys (and-r (eqb x y) (same xs ys) t))
+
+-- ---- answers
+
+abbrev is-text : Decoded → Bool
+is-text (decoded.Text n) = eqb n 1
+is-text (decoded.Refused r) = false
+
+text : (d : Decoded) → T (is-text d) → d ≡ decoded.Text 1
+text (decoded.Text n) t = ap decoded.Text (eqb→eq n 1 t)
+text (decoded.Refused r) t = absurd t
+
+abbrev is-accepted : BlockDecoded → ℕ → ℕ → Bool
+is-accepted d v l = is-text (d .answer) && (eqb (codeIn (d .characters) 0) v && eqb (leadIn (d .characters) 0) l)
+
+accepted : (d : BlockDecoded) (v l : ℕ) → T (is-accepted d v l) → Accepts d v l
+accepted d v l t =
+    let first = is-text (d .answer) in
+    let second = eqb (codeIn (d .characters) 0) v in
+    let third = eqb (leadIn (d .characters) 0) l in
+    let rest = and-r first (second && third) t in
+    record {
+      answer = text (d .answer) (and-l first (second && third) t);
+      its-code = eqb→eq (codeIn (d .characters) 0) v (and-l second third rest);
+      its-lead = eqb→eq (leadIn (d .characters) 0) l (and-r second third rest);
+    }
+
+abbrev is-unclear : Decoded → ℕ → ℕ → Bool
+is-unclear (decoded.Text n) q l = false
+is-unclear (decoded.Refused r) q l = eqb (r .number) 10 && (eqb (r .place) q && eqb (r .lead) l)
+
+unclear : (d : Decoded) (q l : ℕ) → T (is-unclear d q l) → d ≡ decoded.Refused (unclearAt q l)
+unclear (decoded.Text n) q l t = absurd t
+unclear (decoded.Refused r) q l t =
+    let first = eqb (r .number) 10 in
+    let second = eqb (r .place) q in
+    let third = eqb (r .lead) l in
+    let rest = and-r first (second && third) t in
+    let its-number : r .number ≡ 10 = eqb→eq (r .number) 10 (and-l first (second && third) t) in
+    let its-place : r .place ≡ q = eqb→eq (r .place) q (and-l second third rest) in
+    let its-lead : r .lead ≡ l = eqb→eq (r .lead) l (and-r second third rest) in
+    λ i. decoded.Refused (record { number = its-number i; place = its-place i; lead = its-lead i })
+
+abbrev is-value : Float → ℕ → ℕ → Bool
+is-value nan k c = false
+is-value (inf s) k c = false
+is-value (fin true m e) k c = false
+is-value (fin false m e) k c = eqb (m * up e * c) (k * down e)
+
+value : (x : Float) (k c : ℕ) → T (is-value x k c) → HasValue x false k c
+value nan k c t = absurd t
+value (inf s) k c t = absurd t
+value (fin true m e) k c t = absurd t
+value (fin false m e) k c t = (refl, eqb→eq (m * up e * c) (k * down e) t)
+
+abbrev is-hertz : Tuned → ℕ → ℕ → Bool
+is-hertz (tuned.Hertz x) k c = is-value x k c
+is-hertz (tuned.Refused r) k c = false
+
+hertz : (f : Tuned) (k c : ℕ) → T (is-hertz f k c) → (x : Float) × (f ≡ tuned.Hertz x) × HasValue x false k c
+hertz (tuned.Hertz x) k c t = (x, refl, value x k c t)
+hertz (tuned.Refused r) k c t = absurd t
+
+-- ---- rows
+
+abbrev passes : Row → Bool
+passes (b= b codes vs first-tones ts) = same (take (length ts) (encodedInto b vs (replicate 64 0))) ts
+passes (tone g is-symbol s) = eqb (symbolOf g) s
+passes (heard r= r u= u) = eqb (replacedIn case-1 heard) r && eqb (missingIn heard) u
+passes (heard m= m accepts-code v lead l) = is-accepted (decodeBlock 1 m heard 1) v l
+passes (heard m= m refuses-10-place q lead l) = is-unclear (decodeBlock 1 m heard 1 .answer) q l
+passes (heard has-lead l) = eqb (leadIn (charactersOf 1 heard) 0) l
+passes (heard just-beyond-demand-3-at-m= m) = eqb (2 * missingIn heard + 4 * replacedIn case-1 heard) (64 + m)
+passes (b= b B w centre c tone n at k thousandths) = is-hertz (frequencyOf b w c n) k 1000
+
+holds : (row : Row) → T (passes row) → Holds row
+holds (b= b codes vs first-tones ts) t = same-lists (take (length ts) (encodedInto b vs (replicate 64 0))) ts t
+holds (tone g is-symbol s) t = eqb→eq (symbolOf g) s t
+holds (heard r= r u= u) t =
+    let replaced = eqb (replacedIn case-1 heard) r in
+    let missing = eqb (missingIn heard) u in
+    (eqb→eq (replacedIn case-1 heard) r (and-l replaced missing t), eqb→eq (missingIn heard) u (and-r replaced missing t))
+holds (heard m= m accepts-code v lead l) t = accepted (decodeBlock 1 m heard 1) v l t
+holds (heard m= m refuses-10-place q lead l) t = unclear (decodeBlock 1 m heard 1 .answer) q l t
+holds (heard has-lead l) t = eqb→eq (leadIn (charactersOf 1 heard) 0) l t
+holds (heard just-beyond-demand-3-at-m= m) t = eqb→eq (2 * missingIn heard + 4 * replacedIn case-1 heard) (64 + m) t
+holds (b= b B w centre c tone n at k thousandths) t = hertz (frequencyOf b w c n) k 1000 t
+
+abbrev all-pass : List Row → Bool
+all-pass [] = true
+all-pass (row ∷ rows) = passes row && all-pass rows
+
+pub each-holds : (rows : List Row) → T (all-pass rows) → Each rows
+each-holds [] t = tt
+each-holds (row ∷ rows) t = (holds row (and-l (passes row) (all-pass rows) t), each-holds rows (and-r (passes row) (all-pass rows) t))

@@ -1,0 +1,2 @@
+pub mod Heard
+pub mod Sheet
