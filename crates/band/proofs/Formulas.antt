@@ -1,19 +1,19 @@
--- The band's edge and spacing and a tone's place, as the code computes them, are exact; and they are the fractions of document 01 (law `Fractions`).
+-- The band's edge and spacing and a tone's place, as the code computes them, are exact, and are the fractions of document 01.
 use mathlib.Core.Path.{_≡_, refl, sym, ap, ap₂, _∙_}
 use mathlib.Core.Bool.{false}
 use Prim.Native.Nat.{ℕ, _+_, _-_, _*_, _^_, _<_, _≤_}
-use native.Mathlib.Nat.{mul-comm, mul-assoc, mul-right-comm, mul-le-mul, add-mul, le-of-lt, eq-of-mul-eq-mul-right}
+use native.Mathlib.Nat.{mul-comm, mul-assoc, mul-right-comm, mul-le-mul, add-mul, le-of-lt}
 use native.Mathlib.Omega.{arith}
 use lib.Dec.{lit<}
 use lib.Pow.{pow-add, pow-mono}
-use lib.Ieee.{Float, binary64, up, down, ofBits, ofInt, add, sub, mul, div}
+use lib.Ieee.{Float, binary64, ofBits, ofInt, add, sub, mul, div}
 use lib.Ieee.Exact.{HasValue}
 use Rattle.band.specs.Exact.{scaled}
 use Rattle.band.specs.Limits.{fault}
 use Rattle.band.specs.Frequencies.{edge512, spacing512, half512, tone512, hertzOf}
 use Rattle.band.specs.Laws.{whole}
 use Rattle.band.proofs.Scaling.{scaled-value, cast-exact, sum-exact, difference-exact, product-exact, quotient-exact}
-use Rattle.band.proofs.Rounding.{of-value}
+use Rattle.band.proofs.Rounding.{same-value}
 use Rattle.band.proofs.Settings.{Within, within}
 
 -- the literal 2.0
@@ -92,13 +92,6 @@ module _ (b w c : ℕ) (e : fault b w c 0 ≡ 0) where
       ∙ sum-exact (edge512 w c + half512 b w) (spacing512 b w * n) (omega arith)
 
 -- ---- the fractions
-
-same-value : (x : Float) (a c a′ c′ : ℕ) → 0 < c → a′ * c ≡ a * c′ → HasValue x false a c → HasValue x false a′ c′
-same-value x a c a′ c′ C e h = of-value (λ (x : Float). HasValue x false a′ c′) x a c h (λ m g k. (
-  refl,
-  eq-of-mul-eq-mul-right c C (m * up g * c′) (a′ * down g)
-      (mul-right-comm (m * up g) c′ c ∙ ap (λ (z : ℕ). z * c′) k ∙ mul-right-comm a (down g) c′ ∙ ap (λ (z : ℕ). z * down g) (sym e) ∙ mul-right-comm a′ c (down g)),
-))
 
 module _ (b w c : ℕ) (e : fault b w c 0 ≡ 0) where
   pub edge-fraction : HasValue (scaled (edge512 w c)) false (2 * c - w) 2

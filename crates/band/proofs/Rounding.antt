@@ -1,8 +1,8 @@
--- Sums, differences, products and quotients of floats that are not negative, by fractions that they equal: the exact result, rounded once.
-use mathlib.Core.Path.{_≡_, sym, ap, ap₂, _∙_, subst}
+-- Floats that are not negative, by the fractions that they equal: a sum, difference, product or quotient is the exact one, rounded once.
+use mathlib.Core.Path.{_≡_, refl, sym, ap, ap₂, _∙_, subst}
 use mathlib.Core.Bool.{true, false, true≢false}
 use Prim.Native.Nat.{ℕ, _+_, _-_, _*_, _<_, _≤_}
-use native.Mathlib.Nat.{mul-comm, mul-assoc, mul-right-comm, mul-mul-mul-comm, mul-sub, add-mul, mul-pos, mul-le-mul-right}
+use native.Mathlib.Nat.{mul-comm, mul-assoc, mul-right-comm, mul-mul-mul-comm, mul-sub, add-mul, mul-pos, mul-le-mul-right, eq-of-mul-eq-mul-right}
 use native.Mathlib.Omega.{arith}
 use borrow.Author.Tests.{le-ltb, ne-eqb}
 use lib.IntN.{ℤ}
@@ -14,6 +14,11 @@ use lib.Ieee.Positive.{first-pos}
 use lib.Ieee.Scale.{round-same}
 
 -- ---- the fractions X / p = a / c and Y / q = b / d, in whole numbers
+
+other-over : (X p a c a′ c′ : ℕ) → 0 < c → a′ * c ≡ a * c′ → X * c ≡ a * p → X * c′ ≡ a′ * p
+other-over X p a c a′ c′ C e h =
+    eq-of-mul-eq-mul-right c C (X * c′) (a′ * p)
+    (mul-right-comm X c′ c ∙ ap (λ (z : ℕ). z * c′) h ∙ mul-right-comm a p c′ ∙ ap (λ (z : ℕ). z * p) (sym e) ∙ mul-right-comm a′ c p)
 
 sub-mul : (a b n : ℕ) → (a - b) * n ≡ a * n - b * n
 sub-mul a b n = mul-comm (a - b) n ∙ mul-sub n a b ∙ ap₂ (λ (x y : ℕ). x - y) (mul-comm n a) (mul-comm n b)
@@ -44,11 +49,14 @@ module _ (X Y p q a b c d : ℕ) (h : X * c ≡ a * p) (k : Y * d ≡ b * q) whe
 
 -- ---- a float that is a / c is one of a finite significand and no sign
 
-pub of-value : (P : Float → Type 0) (x : Float) (a c : ℕ) → HasValue x false a c → ((m : ℕ) (e : ℤ) → m * up e * c ≡ a * down e → P (fin false m e)) → P x
+of-value : (P : Float → Type 0) (x : Float) (a c : ℕ) → HasValue x false a c → ((m : ℕ) (e : ℤ) → m * up e * c ≡ a * down e → P (fin false m e)) → P x
 of-value P nan a c h g = absurd h
 of-value P (inf s) a c h g = absurd h
 of-value P (fin true m e) a c h g = absurd (true≢false (h .0))
 of-value P (fin false m e) a c h g = g m e (h .1)
+
+pub same-value : (x : Float) (a c a′ c′ : ℕ) → 0 < c → a′ * c ≡ a * c′ → HasValue x false a c → HasValue x false a′ c′
+same-value x a c a′ c′ C e h = of-value (λ (x : Float). HasValue x false a′ c′) x a c h (λ m g k. (refl, other-over (m * up g) (down g) a c a′ c′ C e k))
 
 of-values : (P : Float → Float → Type 0) (x y : Float) (a b c d : ℕ) → HasValue x false a c → HasValue y false b d
     → ((m : ℕ) (e : ℤ) (n : ℕ) (g : ℤ) → m * up e * c ≡ a * down e → n * up g * d ≡ b * down g → P (fin false m e) (fin false n g)) → P x y
