@@ -54,7 +54,7 @@ only-scaled : (k : ℕ) (x : Float) → k < 2 ^ 53 → T (fits binary64 x) → H
 only-scaled k x h p v = one-value binary64 x (scaled k) false k 512 (lit< tt) p (scaled-fits k h) v (scaled-value k)
 
 pub exact-law : Exact
-exact-law = record { value = scaled-value; only = only-scaled }
+exact-law = record { held = scaled-fits; value = scaled-value; only = only-scaled }
 
 rounded : (k : ℕ) → k < 2 ^ 53 → round binary64 false k 512 ≡ scaled k
 rounded k h =

@@ -1,4 +1,4 @@
--- The laws of a band. Each is the promise of the function of the same name in src/laws.rt. `HasValue x false a c` says that x is finite, not negative, and a / c.
+-- The laws of a band. Each is the promise of the function of the same name in src/laws.rt. `HasValue x false a c` says that x is finite, has no minus sign, and is a / c.
 use mathlib.Core.Path.{_≡_}
 use mathlib.Core.Bool.{false}
 use Prim.Native.Nat.{ℕ, _+_, _-_, _*_, _^_, _<_, _≤_}
@@ -12,8 +12,9 @@ use Rattle.band.specs.declared.Band.{Band}
 use Rattle.band.specs.declared.Planned.the-variants as planned
 use Rattle.band.specs.declared.Tuned.the-variants as tuned
 
--- `scaled k` has the value k / 512, and no other f64 has it.
+-- `scaled k` is an f64, has the value k / 512, and no other f64 has it.
 pub record Exact : Type 0 where
+  pub held : (k : ℕ) → k < 2 ^ 53 → T (fits binary64 (scaled k))
   pub value : (k : ℕ) → HasValue (scaled k) false k 512
   pub only : (k : ℕ) (x : Float) → k < 2 ^ 53 → T (fits binary64 x) → HasValue x false k 512 → x ≡ scaled k
 
