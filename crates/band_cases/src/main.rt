@@ -15,7 +15,7 @@ fn case_12() {
     lines::frequency(5, 1000, 1500, 31);
 }
 
-// The lowest and the highest frequency of a mode: its first tone at the least centre, its last at the greatest.
+// A mode's first tone in the narrowest band at its least centre, and the last in the widest at the greatest.
 fn first_and_last(mode: u32, last: u16) {
     lines::frequency(mode, 125, 63, 0);
     lines::frequency(mode, 2000, 10000, last);
