@@ -2,13 +2,14 @@
 use mathlib.Core.Path.{_≡_, refl, sym, ap, _∙_}
 use mathlib.Core.Bool.{Bool, _&&_}
 use Prim.Native.Nat.{ℕ, zero, suc, pred, _*_, _%_, _^_, _<_}
-use native.Mathlib.Nat.{mul-one, zero-mul, mul-assoc, mul-right-comm, mul-pos, pow-suc, zero-lt-suc, eq-of-mul-eq-mul-right}
+use native.Mathlib.Nat.{mul-one, zero-mul, mul-assoc, mul-pos, pow-suc, zero-lt-suc}
 use native.Mathlib.Omega.{arith}
 use lib.Dec.{T, eqb, leb, ltb, eqb→eq}
 use lib.IntN.{ℤ, pos, negsuc}
 use lib.Ieee.{Float, nan, inf, fin, Format, prec, emax, low, up, down, fits}
 use lib.Ieee.Exact.{HasValue}
 use lib.Ieee.Fits.{and-l, up-pos, down-pos}
+use Rattle.band.proofs.Rounding.{cross}
 
 -- ---- an odd number times a power of two
 
@@ -53,12 +54,7 @@ zero-fits : (f : Format) (s : Bool) (e : ℤ) → T (fits f (fin s zero e)) → 
 unfolding fits
 zero-fits f s e t = zero-exponent e (eqb→eq (up e * down e) 1 t)
 
--- ---- X / p and Y / q are both a / c
-
-cross : (X Y p q a c : ℕ) → 0 < c → X * c ≡ a * p → Y * c ≡ a * q → X * q ≡ Y * p
-cross X Y p q a c C h k =
-    eq-of-mul-eq-mul-right c C (X * q) (Y * p)
-    (mul-right-comm X q c ∙ ap (λ (z : ℕ). z * q) h ∙ mul-right-comm a p q ∙ ap (λ (z : ℕ). z * p) (sym k) ∙ mul-right-comm Y c p)
+-- ---- two that are the same fraction
 
 -- a significand above 0 is not the fraction 0
 not-zero : (m : ℕ) (e g : ℤ) → suc m * up e * down g ≡ zero * up g * down e → ⊥

@@ -15,10 +15,11 @@ use lib.Ieee.Scale.{round-same}
 
 -- ---- the fractions X / p = a / c and Y / q = b / d, in whole numbers
 
-other-over : (X p a c a′ c′ : ℕ) → 0 < c → a′ * c ≡ a * c′ → X * c ≡ a * p → X * c′ ≡ a′ * p
-other-over X p a c a′ c′ C e h =
-    eq-of-mul-eq-mul-right c C (X * c′) (a′ * p)
-    (mul-right-comm X c′ c ∙ ap (λ (z : ℕ). z * c′) h ∙ mul-right-comm a p c′ ∙ ap (λ (z : ℕ). z * p) (sym e) ∙ mul-right-comm a′ c p)
+-- where both are a / c
+pub cross : (X Y p q a c : ℕ) → 0 < c → X * c ≡ a * p → Y * c ≡ a * q → X * q ≡ Y * p
+cross X Y p q a c C h k =
+    eq-of-mul-eq-mul-right c C (X * q) (Y * p)
+    (mul-right-comm X q c ∙ ap (λ (z : ℕ). z * q) h ∙ mul-right-comm a p q ∙ ap (λ (z : ℕ). z * p) (sym k) ∙ mul-right-comm Y c p)
 
 sub-mul : (a b n : ℕ) → (a - b) * n ≡ a * n - b * n
 sub-mul a b n = mul-comm (a - b) n ∙ mul-sub n a b ∙ ap₂ (λ (x y : ℕ). x - y) (mul-comm n a) (mul-comm n b)
@@ -56,7 +57,7 @@ of-value P (fin true m e) a c h g = absurd (true≢false (h .0))
 of-value P (fin false m e) a c h g = g m e (h .1)
 
 pub same-value : (x : Float) (a c a′ c′ : ℕ) → 0 < c → a′ * c ≡ a * c′ → HasValue x false a c → HasValue x false a′ c′
-same-value x a c a′ c′ C e h = of-value (λ (x : Float). HasValue x false a′ c′) x a c h (λ m g k. (refl, other-over (m * up g) (down g) a c a′ c′ C e k))
+same-value x a c a′ c′ C e h = of-value (λ (x : Float). HasValue x false a′ c′) x a c h (λ m g k. (refl, cross (m * up g) a′ (down g) c′ a c C k e))
 
 of-values : (P : Float → Float → Type 0) (x y : Float) (a b c d : ℕ) → HasValue x false a c → HasValue y false b d
     → ((m : ℕ) (e : ℤ) (n : ℕ) (g : ℤ) → m * up e * c ≡ a * down e → n * up g * d ≡ b * down g → P (fin false m e) (fin false n g)) → P x y

@@ -47,7 +47,8 @@ impl Band {
     fn hertz(self, tone: u16) -> f64
         ensures { λ r. ⌜ ToneOf self tone r ⌝ }
     {
-        self.edge + self.spacing / 2.0 + self.spacing * (tone as f64)
+        let half = self.spacing / 2.0;
+        self.edge + half + self.spacing * (tone as f64)
     }
 }
 

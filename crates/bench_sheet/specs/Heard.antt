@@ -21,6 +21,7 @@ case-1 = tonesOf 1 (0 ∷ [])
 unfoldable pub evens-to : ℕ → (ℕ → ℕ) → List ℕ
 evens-to last change = tab (λ t. cond (not (odd t) && leb t last) (change (num case-1 t)) (num case-1 t)) 64
 
+-- a turned tone is the other of the two
 unfoldable pub turned-to : ℕ → List ℕ
 turned-to last = evens-to last (λ tone. 1 - tone)
 
