@@ -1,0 +1,110 @@
+-- What is said of a line, by what was read: an equation for each answer.
+use mathlib.Core.Path.{_≡_, refl}
+use mathlib.Core.Bool.{Bool, true, false, _&&_}
+use mathlib.Core.List.{List, []}
+use Prim.Native.Nat.{ℕ, _+_, _%_, _^_}
+use borrow.Author.Tests.{eq-eqb, ne-eqb}
+use lib.Dec.{eqb}
+use lib.ListN.{take}
+use Rattle.refusal.specs.Checks.{isMode, isLead}
+use Rattle.refusal.specs.Refused.{refusedAt}
+use Rattle.refusal.specs.declared.Refusal.{Refusal}
+use Rattle.walsh.specs.declared.Character.{Character}
+use Rattle.block.specs.Lists.{num}
+use Rattle.block.specs.Decoding.{decodeBlock}
+use Rattle.block.specs.declared.Decoded.{Decoded}
+use Rattle.block.specs.declared.Decoded.the-variants.{Text, Refused}
+use Rattle.block.specs.declared.BlockDecoded.{BlockDecoded}
+use Rattle.listing.specs.declared.Line.{Line}
+use Rattle.listing.specs.declared.Listing.{Listing}
+use Rattle.listing.specs.declared.Stage.the-variants.{Settings, Blocks, Stopped}
+use Rattle.listing.specs.Input.{lineFeed}
+use Rattle.listing.specs.Output.{answerText, goesOn, charactersText, unclearText, refusedText, unreadableText}
+use Rattle.listing.specs.Reader.{isEmpty, isBlank, nextTones, lineEnd, endTones}
+use Rattle.listing.specs.Stages.{Said, hearing, stops, checkedSaid, settingsSaid, answerSaid, decodedSaid, blockSaid, judged, closed, within-line, stepped, steppedTones, lastLine}
+
+module _ (b m : ℕ) where
+  pub says-mode : isMode b ≡ false → checkedSaid b m ≡ stops (refusedText (refusedAt 1 0))
+  unfolding checkedSaid
+  says-mode e = simp e
+
+  pub says-lead : isMode b ≡ true → isLead m ≡ false → checkedSaid b m ≡ stops (refusedText (refusedAt 2 0))
+  unfolding checkedSaid
+  says-lead e f = simp (e, f)
+
+  pub says-nothing : isMode b ≡ true → isLead m ≡ true → checkedSaid b m ≡ record { text = []; next = hearing b m 0 }
+  unfolding checkedSaid
+  says-nothing e f = simp (e, f)
+
+module _ (line : Line) (tones : List ℕ) where
+  pub says-no-pair : (isEmpty (line .word) && eqb (line .count) 2) ≡ false → settingsSaid line tones ≡ stops (unreadableText 1)
+  unfolding settingsSaid
+  says-no-pair e = rw e
+
+  pub says-pair : (isEmpty (line .word) && eqb (line .count) 2) ≡ true → settingsSaid line tones ≡ checkedSaid (num tones 0) (num tones 1)
+  unfolding settingsSaid
+  says-pair e = rw e
+
+  module _ (b m k : ℕ) where
+    pub says-unreadable : isEmpty (line .word) ≡ false → blockSaid b m k line tones ≡ stops (unreadableText ((k + 2) % 2 ^ 64))
+    unfolding blockSaid
+    says-unreadable e = rw e
+
+    pub says-decoded : isEmpty (line .word) ≡ true → blockSaid b m k line tones ≡ decodedSaid b m k (decodeBlock b m (take (line .count) tones) 8)
+    unfolding blockSaid
+    says-decoded e = rw e
+
+module _ (b m k : ℕ) (characters : List Character) where
+  pub says-text : (n : ℕ) → answerSaid b m k (Text n) characters ≡ record { text = charactersText k characters n; next = hearing b m ((k + 1) % 2 ^ 64) }
+  unfolding answerSaid answerText goesOn
+  says-text n = refl
+
+  module _ (r : Refusal) where
+    pub says-unclear : r .number ≡ 10 → answerSaid b m k (Refused r) characters ≡ record { text = unclearText k r; next = hearing b m ((k + 1) % 2 ^ 64) }
+    unfolding answerSaid answerText goesOn
+    says-unclear e = simp (eq-eqb (r .number) 10 e)
+
+    pub says-refused : (r .number ≡ 10 → ⊥) → answerSaid b m k (Refused r) characters ≡ stops (refusedText r)
+    unfolding answerSaid answerText goesOn
+    says-refused e = simp (ne-eqb (r .number) 10 e)
+
+    -- a refusal says nothing of characters
+    pub says-without : answerSaid b m k (Refused r) characters ≡ answerSaid b m k (Refused r) []
+    unfolding answerSaid answerText goesOn
+    says-without = refl
+
+-- the answer of a decision, by its case
+pub says-answer : (b m k : ℕ) (d : BlockDecoded) {answer : Decoded} → d .answer ≡ answer → decodedSaid b m k d ≡ answerSaid b m k answer (d .characters)
+unfolding decodedSaid
+says-answer b m k d e = rw e
+
+module _ (listing : Listing) (tones : List ℕ) where
+  pub closes-settings : listing .stage ≡ Settings → closed listing tones ≡ settingsSaid (lineEnd (listing .line)) (endTones (listing .line) tones)
+  unfolding closed judged
+  closes-settings e = rw e
+
+  pub closes-block : listing .stage ≡ Blocks
+      → closed listing tones ≡ blockSaid (listing .mode) (listing .«least_lead») (listing .blocks) (lineEnd (listing .line)) (endTones (listing .line) tones)
+  unfolding closed judged
+  closes-block e = rw e
+
+  pub closes-stopped : listing .stage ≡ Stopped → closed listing tones ≡ stops []
+  unfolding closed judged
+  closes-stopped e = rw e
+
+  module _ (c : ℕ) where
+    pub says-line-feed : c ≡ lineFeed → (stepped listing c tones ≡ closed listing tones) × (steppedTones listing c tones ≡ endTones (listing .line) tones)
+    unfolding stepped steppedTones
+    says-line-feed e = (rw (eq-eqb c lineFeed e), rw (eq-eqb c lineFeed e))
+
+    pub says-byte : (c ≡ lineFeed → ⊥) → (stepped listing c tones ≡ record { text = []; next = within-line listing c }) × (steppedTones listing c tones ≡ nextTones (listing .line) c tones)
+    unfolding stepped steppedTones
+    says-byte e = (rw (ne-eqb c lineFeed e), rw (ne-eqb c lineFeed e))
+
+  pub nothing-last : isBlank (listing .line) ≡ true → (lastLine listing tones ≡ record { text = []; next = listing }) × (endTones (listing .line) tones ≡ tones)
+  unfolding lastLine endTones
+  nothing-last e = (rw e, rw e)
+
+  pub closes-last : isBlank (listing .line) ≡ false → lastLine listing tones ≡ closed listing tones
+  unfolding lastLine
+  closes-last e = rw e

@@ -1,0 +1,131 @@
+-- The listing as a state that takes a byte and gives the next state and what is printed.
+use mathlib.Core.Bool.{Bool, false, true, cond, not, _&&_}
+use mathlib.Core.List.{List, [], _∷_, _++_}
+use Prim.Native.Nat.{ℕ, _+_, _%_, _^_}
+use lib.Dec.{eqb}
+use lib.ListN.{length, take, drop}
+use Rattle.refusal.specs.Checks.{isMode, isLead}
+use Rattle.refusal.specs.Refused.{refusedAt}
+use Rattle.block.specs.Lists.{num}
+use Rattle.block.specs.Decoding.{decodeBlock}
+use Rattle.walsh.specs.declared.Character.{Character}
+use Rattle.block.specs.declared.Decoded.{Decoded}
+use Rattle.block.specs.declared.BlockDecoded.{BlockDecoded}
+use Rattle.listing.specs.declared.Line.{Line}
+use Rattle.listing.specs.declared.Stage.{Stage}
+use Rattle.listing.specs.declared.Stage.the-variants.{Settings, Blocks, Stopped}
+use Rattle.listing.specs.declared.Listing.{Listing}
+use Rattle.listing.specs.declared.Progress.{Progress}
+use Rattle.listing.specs.Input.{lineFeed}
+use Rattle.listing.specs.Output.{answerText, goesOn, refusedText, unreadableText, endText}
+use Rattle.listing.specs.Reader.{fresh, isEmpty, isBlank, nextLine, nextTones, lineEnd, endTones}
+
+-- what is printed, and the state after it
+pub record Said : Type 0 where
+  pub text : List ℕ
+  pub next : Listing
+
+-- what an entry answers of it, and what it leaves in the output
+abbrev pub told : Said → Progress
+told s = record { listing = s .next; written = length (s .text) }
+
+-- a text at place at, over what stood there
+unfoldable pub pasted : ℕ → List ℕ → List ℕ → List ℕ
+pasted at text out = take at out ++ text ++ drop (at + length text) out
+
+-- ---- states
+
+abbrev pub begun : Listing
+begun = record { stage = Settings; mode = 0; «least_lead» = 0; blocks = 0; line = fresh }
+
+-- before the line of block k
+abbrev pub hearing : ℕ → ℕ → ℕ → Listing
+hearing b m k = record { stage = Blocks; mode = b; «least_lead» = m; blocks = k; line = fresh }
+
+abbrev pub stopped : Listing
+stopped = record { stage = Stopped; mode = 0; «least_lead» = 0; blocks = 0; line = fresh }
+
+abbrev pub isStopped : Stage → Bool
+isStopped Settings = false
+isStopped Blocks = false
+isStopped Stopped = true
+
+-- `-` may stand in every line but the first
+abbrev pub takesMarks : Stage → Bool
+takesMarks Settings = false
+takesMarks Blocks = true
+takesMarks Stopped = true
+
+-- ---- a line that was read to its end
+
+-- the last text
+abbrev pub stops : List ℕ → Said
+stops text = record { text = text; next = stopped }
+
+unfoldable pub checkedSaid : ℕ → ℕ → Said
+checkedSaid b m =
+    cond (not (isMode b)) (stops (refusedText (refusedAt 1 0)))
+    (cond (not (isLead m)) (stops (refusedText (refusedAt 2 0)))
+    (record { text = []; next = hearing b m 0 }))
+
+unfoldable pub settingsSaid : Line → List ℕ → Said
+settingsSaid line tones =
+    cond (isEmpty (line .word) && eqb (line .count) 2) (checkedSaid (num tones 0) (num tones 1)) (stops (unreadableText 1))
+
+unfoldable pub answerSaid : ℕ → ℕ → ℕ → Decoded → List Character → Said
+answerSaid b m k answer characters =
+    cond (goesOn answer)
+    (record { text = answerText k answer characters; next = hearing b m ((k + 1) % 2 ^ 64) })
+    (stops (answerText k answer characters))
+
+unfoldable pub decodedSaid : ℕ → ℕ → ℕ → BlockDecoded → Said
+decodedSaid b m k d = answerSaid b m k (d .answer) (d .characters)
+
+-- the counts go round at 2^64
+unfoldable pub blockSaid : ℕ → ℕ → ℕ → Line → List ℕ → Said
+blockSaid b m k line tones =
+    cond (isEmpty (line .word)) (decodedSaid b m k (decodeBlock b m (take (line .count) tones) 8)) (stops (unreadableText ((k + 2) % 2 ^ 64)))
+
+unfoldable pub judged : Stage → Listing → Line → List ℕ → Said
+judged Settings listing line tones = settingsSaid line tones
+judged Blocks listing line tones = blockSaid (listing .mode) (listing .«least_lead») (listing .blocks) line tones
+judged Stopped listing line tones = stops []
+
+unfoldable pub closed : Listing → List ℕ → Said
+closed listing tones = judged (listing .stage) listing (lineEnd (listing .line)) (endTones (listing .line) tones)
+
+-- ---- a byte, and the end of the input
+
+unfoldable pub within-line : Listing → ℕ → Listing
+within-line listing c =
+    record {
+      stage = listing .stage;
+      mode = listing .mode;
+      «least_lead» = listing .«least_lead»;
+      blocks = listing .blocks;
+      line = nextLine (takesMarks (listing .stage)) (listing .line) c;
+    }
+
+unfoldable pub stepped : Listing → ℕ → List ℕ → Said
+stepped listing c tones = cond (eqb c lineFeed) (closed listing tones) (record { text = []; next = within-line listing c })
+
+unfoldable pub steppedTones : Listing → ℕ → List ℕ → List ℕ
+steppedTones listing c tones = cond (eqb c lineFeed) (endTones (listing .line) tones) (nextTones (listing .line) c tones)
+
+-- a last line with no line feed is a line too
+unfoldable pub lastLine : Listing → List ℕ → Said
+lastLine listing tones = cond (isBlank (listing .line)) (record { text = []; next = listing }) (closed listing tones)
+
+-- what is printed after the last line
+unfoldable pub endingText : Stage → ℕ → List ℕ
+endingText Settings k = unreadableText 1
+endingText Blocks k = endText k
+endingText Stopped k = []
+
+unfoldable pub finished : Listing → List ℕ → List ℕ
+finished listing tones = lastLine listing tones .text ++ endingText (lastLine listing tones .next .stage) (lastLine listing tones .next .blocks)
+
+-- what is printed from a state on, byte after byte to the input's end
+unfoldable pub printed : Listing → List ℕ → List ℕ → List ℕ
+printed listing tones [] = finished listing tones
+printed listing tones (c ∷ cs) = stepped listing c tones .text ++ printed (stepped listing c tones .next) (steppedTones listing c tones) cs

@@ -1,0 +1,93 @@
+// The lines of a listing, put at the output's front.
+use super::Stage;
+use super::number;
+use refusal::Refusal;
+use walsh::Character;
+ghost use mathlib.Core.Path.{_≡_};
+ghost use Prim.Native.Nat.{_+_, _≤_};
+ghost use lib.ListN.{length};
+ghost use Rattle.listing.specs.Output.{characterText, charactersText, unclearText, refusedText, unreadableText, endText};
+ghost use Rattle.listing.specs.Stages.{pasted, endingText};
+
+const SPACE: u8 = b' ';
+
+const LINE_FEED: u8 = b'\n';
+
+fn put_character(block: u64, q: usize, character: Character, at: usize, out: &mut [u8]) -> usize
+    requires { ⌜ at + 84 ≤ length (now out) ⌝ }
+    ensures answer { λ r. ⌜ r ≡ at + length (characterText block q character) ⌝ }
+    ensures output { λ _. ⌜ now (out .exit) ≡ pasted at (characterText block q character) (now (out .entry)) ⌝ }
+{
+    let place = number::put_field(block, SPACE, at, out);
+    let code = number::put_field(q as u64, SPACE, place, out);
+    let lead = number::put_field(character.code as u64, SPACE, code, out);
+    number::put_field(character.lead as u64, LINE_FEED, lead, out)
+}
+
+// A line for each of the first count characters.
+pub fn put_characters(block: u64, count: usize, characters: [Character; 8], out: &mut [u8]) -> usize
+    requires { ⌜ (count ≤ 8) × (672 ≤ length (now out)) ⌝ }
+    ensures answer { λ r. ⌜ r ≡ length (charactersText block characters count) ⌝ }
+    ensures output { λ _. ⌜ now (out .exit) ≡ pasted 0 (charactersText block characters count) (now (out .entry)) ⌝ }
+{
+    let mut at: usize = 0;
+    let mut q: usize = 0;
+    while q < count {
+        let character = characters[q];
+        at = put_character(block, q, character, at, out);
+        q += 1;
+    }
+    at
+}
+
+pub fn put_unclear(block: u64, refusal: Refusal, out: &mut [u8]) -> usize
+    requires { ⌜ 65 ≤ length (now out) ⌝ }
+    ensures answer { λ r. ⌜ r ≡ length (unclearText block refusal) ⌝ }
+    ensures output { λ _. ⌜ now (out .exit) ≡ pasted 0 (unclearText block refusal) (now (out .entry)) ⌝ }
+{
+    let place = number::put_field(block, SPACE, 0, out);
+    let mark = number::put_field(refusal.place as u64, SPACE, place, out);
+    let lead = number::put_text(b"- ", mark, out);
+    number::put_field(refusal.lead as u64, LINE_FEED, lead, out)
+}
+
+pub fn put_refused(refusal: Refusal, out: &mut [u8]) -> usize
+    requires { ⌜ 50 ≤ length (now out) ⌝ }
+    ensures answer { λ r. ⌜ r ≡ length (refusedText refusal) ⌝ }
+    ensures output { λ _. ⌜ now (out .exit) ≡ pasted 0 (refusedText refusal) (now (out .entry)) ⌝ }
+{
+    let number = number::put_text(b"REFUSED ", 0, out);
+    let place = number::put_field(refusal.number as u64, SPACE, number, out);
+    number::put_field(refusal.place as u64, LINE_FEED, place, out)
+}
+
+pub fn put_unreadable(line: u64, out: &mut [u8]) -> usize
+    requires { ⌜ 35 ≤ length (now out) ⌝ }
+    ensures answer { λ r. ⌜ r ≡ length (unreadableText line) ⌝ }
+    ensures output { λ _. ⌜ now (out .exit) ≡ pasted 0 (unreadableText line) (now (out .entry)) ⌝ }
+{
+    let number = number::put_text(b"REFUSED INPUT ", 0, out);
+    number::put_field(line, LINE_FEED, number, out)
+}
+
+fn put_end(blocks: u64, out: &mut [u8]) -> usize
+    requires { ⌜ 25 ≤ length (now out) ⌝ }
+    ensures answer { λ r. ⌜ r ≡ length (endText blocks) ⌝ }
+    ensures output { λ _. ⌜ now (out .exit) ≡ pasted 0 (endText blocks) (now (out .entry)) ⌝ }
+{
+    let number = number::put_text(b"END ", 0, out);
+    number::put_field(blocks, LINE_FEED, number, out)
+}
+
+// The last line, if there is one.
+pub fn put_ending(stage: Stage, blocks: u64, out: &mut [u8]) -> usize
+    requires { ⌜ 35 ≤ length (now out) ⌝ }
+    ensures answer { λ r. ⌜ r ≡ length (endingText stage blocks) ⌝ }
+    ensures output { λ _. ⌜ now (out .exit) ≡ pasted 0 (endingText stage blocks) (now (out .entry)) ⌝ }
+{
+    match stage {
+        Stage::Settings => put_unreadable(1, out),
+        Stage::Blocks => put_end(blocks, out),
+        Stage::Stopped => 0,
+    }
+}
