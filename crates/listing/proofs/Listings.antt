@@ -88,15 +88,15 @@ module _ (b m : ℕ) (e : isMode b ≡ true) (f : isLead m ≡ true) where
           ∙ sym (refuses-count b m xs 8 e f n)
 
   module _ (k : ℕ) (line tones : List ℕ) where
-    says-unreadable : isReadable line ≡ false → k + 2 < 2 ^ 64 → lineSaid (hearing b m k) tones line ≡ stops (unreadableText (k + 2))
+    unreadable-said : isReadable line ≡ false → k + 2 < 2 ^ 64 → lineSaid (hearing b m k) tones line ≡ stops (unreadableText (k + 2))
     unfolding lineSaid lineRead closed judged blockSaid isReadable
-    says-unreadable h few =
+    unreadable-said h few =
         let same : (k + 2) % 2 ^ 64 ≡ k + 2 = omega arith in
         rw (reading .readable true line, h, same)
 
-    says-heard : isReadable line ≡ true → length tones ≡ 256 → lineSaid (hearing b m k) tones line ≡ decodedSaid b m k (heard b m line)
+    heard-said : isReadable line ≡ true → length tones ≡ 256 → lineSaid (hearing b m k) tones line ≡ decodedSaid b m k (heard b m line)
     unfolding lineSaid lineRead tonesRead closed judged blockSaid isReadable heard
-    says-heard h size =
+    heard-said h size =
         rw (reading .readable true line, h, reading .kept true line tones size h)
         (ap (decodedSaid b m k) (same-heard (tonesOf line)))
 
@@ -124,10 +124,10 @@ module _ (b m : ℕ) (e : isMode b ≡ true) (f : isLead m ≡ true) where
       by : (t : Bool) → isReadable line ≡ t
           → ((x : List ℕ) → length x ≡ 256 → suc k + length ls + 2 ≤ 2 ^ 64 → fromLines (hearing b m (suc k)) x ls ≡ blocksListed b m (suc k) ls)
           → fromLines (hearing b m k) tones (line ∷ ls) ≡ blocksListed b m k (line ∷ ls)
-      by false h r = rw (h, says-unreadable k line tones h (omega arith)) (last-text (unreadableText (k + 2)) (lineTones (hearing b m k) tones line) ls)
+      by false h r = rw (h, unreadable-said k line tones h (omega arith)) (last-text (unreadableText (k + 2)) (lineTones (hearing b m k) tones line) ls)
       by true h r =
           let next : (k + 1) % 2 ^ 64 ≡ suc k = omega arith in
-          rw (h, says-heard k line tones h size)
+          rw (h, heard-said k line tones h size)
           (goes-on k (heard b m line .answer) (heard b m line .characters) (lineTones (hearing b m k) tones line) (blocksListed b m (suc k) ls) ls
           (rw next (r (lineTones (hearing b m k) tones line) (line-size (hearing b m k) tones line ∙ size) (omega arith))))
 
@@ -158,9 +158,9 @@ module _ (line tones : List ℕ) (size : length tones ≡ 256) where
       let kept = rw two at (reading .kept false line tones size h) in
       sym (getD-take 2 (lineTones begun tones line) i 0 l) ∙ ap (λ (x : List ℕ). num x i) kept ∙ getD-take 255 (tonesOf line) i 0 (omega arith)
 
-  says-settings : lineSaid begun tones line ≡ cond (isReadableFirst line) (checkedSaid (num (tonesOf line) 0) (num (tonesOf line) 1)) (stops (unreadableText 1))
+  settings-said : lineSaid begun tones line ≡ cond (isReadableFirst line) (checkedSaid (num (tonesOf line) 0) (num (tonesOf line) 1)) (stops (unreadableText 1))
   unfolding lineSaid lineTones lineRead closed judged settingsSaid isReadableFirst
-  says-settings = by (every (isWord false) (words line)) refl (ℕ-discrete (length (words line)) 2)
+  settings-said = by (every (isWord false) (words line)) refl (ℕ-discrete (length (words line)) 2)
     where
       by : (t : Bool) → every (isWord false) (words line) ≡ t → Dec (length (words line) ≡ 2)
           → lineSaid begun tones line ≡ cond (isReadableFirst line) (checkedSaid (num (tonesOf line) 0) (num (tonesOf line) 1)) (stops (unreadableText 1))
@@ -181,7 +181,7 @@ module _ (line tones : List ℕ) (size : length tones ≡ 256) where
 lines-listed : (ls : List (List ℕ)) (tones : List ℕ) → length tones ≡ 256 → length ls < 2 ^ 64 → fromLines begun tones ls ≡ linesListed ls
 unfolding fromLines finished lastLine endingText linesListed
 lines-listed [] tones size few = refl
-lines-listed (line ∷ ls) tones size few = rw (says-settings line tones size) (by (isReadableFirst line))
+lines-listed (line ∷ ls) tones size few = rw (settings-said line tones size) (by (isReadableFirst line))
   where
     b : ℕ
     b = num (tonesOf line) 0

@@ -12,7 +12,7 @@ use Rattle.listing.specs.Stages.{pasted}
 head-length : (at : ℕ) (text out : List ℕ) → at + length text ≤ length out → length (take at out ++ text) ≡ at + length text
 head-length at text out h = omega (arith, length-append (take at out) text, length-take-le at out (omega arith))
 
-pub pasted-length : (at : ℕ) (text out : List ℕ) → at + length text ≤ length out → length (pasted at text out) ≡ length out
+pasted-length : (at : ℕ) (text out : List ℕ) → at + length text ≤ length out → length (pasted at text out) ≡ length out
 unfolding pasted
 pasted-length at text out h =
     omega (arith, length-append (take at out ++ text) (drop (at + length text) out), head-length at text out h, length-drop (at + length text) out)

@@ -1,16 +1,25 @@
 -- The reader's next state, by what was read: an equation for each answer of its functions.
-use mathlib.Core.Path.{_≡_, refl}
+use mathlib.Core.Path.{_≡_}
 use mathlib.Core.Bool.{Bool, true, false, _&&_}
 use mathlib.Core.List.{List}
-use Prim.Native.Nat.{ℕ, _+_, _-_, min}
-use borrow.Author.Tests.{eq-eqb, ne-eqb}
+use Prim.Native.Nat.{ℕ, _+_, _-_, _*_, _<_, _≤_, min}
+use borrow.Author.Tests.{le-leb, lt-leb, eq-eqb, ne-eqb}
 use lib.Dec.{eqb}
 use lib.ListN.{set}
 use Rattle.listing.specs.declared.Line.{Line}
 use Rattle.listing.specs.declared.Word.{Word}
-use Rattle.listing.specs.declared.Word.the-variants.{Empty, Unreadable}
+use Rattle.listing.specs.declared.Word.the-variants.{Empty, Number, Unreadable}
 use Rattle.listing.specs.Input.{space, hyphen, isDigit}
-use Rattle.listing.specs.Reader.{withDigit, withMark, nextWord, isWhole, toneIn, wordEnd, keptTone, nextLine, nextTones, isBlank, lineEnd, endTones}
+use Rattle.listing.specs.Reader.{numberWith, withDigit, withMark, nextWord, isWhole, toneIn, wordEnd, keptTone, nextLine, nextTones, isBlank, lineEnd, endTones}
+
+module _ (v d : ℕ) where
+  pub number-within : 10 * v + d ≤ 65535 → numberWith v d ≡ Number (10 * v + d)
+  unfolding numberWith
+  number-within h = rw (le-leb (10 * v + d) 65535 h)
+
+  pub number-over : 65535 < 10 * v + d → numberWith v d ≡ Unreadable
+  unfolding numberWith
+  number-over h = rw (lt-leb (10 * v + d) 65535 h)
 
 module _ (marks : Bool) (w : Word) (c : ℕ) where
   pub at-digit : isDigit c ≡ true → nextWord marks w c ≡ withDigit w (c - 48)

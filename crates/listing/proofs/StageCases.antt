@@ -1,6 +1,6 @@
 -- What is said of a line, by what was read: an equation for each answer.
 use mathlib.Core.Path.{_≡_, refl}
-use mathlib.Core.Bool.{Bool, true, false, _&&_}
+use mathlib.Core.Bool.{true, false, _&&_}
 use mathlib.Core.List.{List, []}
 use Prim.Native.Nat.{ℕ, _+_, _%_, _^_}
 use borrow.Author.Tests.{eq-eqb, ne-eqb}
@@ -21,7 +21,7 @@ use Rattle.listing.specs.declared.Stage.the-variants.{Settings, Blocks, 
 use Rattle.listing.specs.Input.{lineFeed}
 use Rattle.listing.specs.Output.{answerText, goesOn, charactersText, unclearText, refusedText, unreadableText}
 use Rattle.listing.specs.Reader.{isEmpty, isBlank, nextTones, lineEnd, endTones}
-use Rattle.listing.specs.Stages.{Said, hearing, stops, checkedSaid, settingsSaid, answerSaid, decodedSaid, blockSaid, judged, closed, within-line, stepped, steppedTones, lastLine}
+use Rattle.listing.specs.Stages.{hearing, stops, checkedSaid, settingsSaid, answerSaid, decodedSaid, blockSaid, judged, closed, within-line, stepped, steppedTones, lastLine}
 
 module _ (b m : ℕ) where
   pub says-mode : isMode b ≡ false → checkedSaid b m ≡ stops (refusedText (refusedAt 1 0))

@@ -9,7 +9,7 @@ use Rattle.listing.specs.declared.Listing.{Listing}
 use Rattle.listing.specs.Stages.{Said, told, pasted}
 use Rattle.listing.proofs.Pasting.{pasted-fits, pasted-none}
 
-abbrev pub Tells : List ℕ → Said → Progress → List ℕ → Type 0
+abbrev Tells : List ℕ → Said → Progress → List ℕ → Type 0
 Tells out s r after = (r ≡ told s) × (after ≡ pasted 0 (s .text) out)
 
 pub tells-as : (out : List ℕ) {s t : Said} {r : Progress} {after : List ℕ} → s ≡ t → Tells out t r after → Tells out s r after

@@ -8,7 +8,7 @@ use Rattle.listing.specs.declared.Listing.{Listing}
 use Rattle.listing.specs.Input.{words, every, isWord, isDigit, tonesOf, valueFrom}
 use Rattle.listing.specs.Output.{decimal, heading}
 use Rattle.listing.specs.Listed.{listed}
-use Rattle.listing.specs.Reader.{fresh, isEmpty, lineEnd, endTones, readLine, readTones}
+use Rattle.listing.specs.Reader.{fresh, isRead, lineEnd, endTones, readLine, readTones}
 use Rattle.listing.specs.Stages.{begun, isStopped, printed}
 
 -- a number that is printed reads as that number
@@ -18,7 +18,7 @@ pub record Numbers : Type 0 where
 
 -- reading a line byte by byte gives what is defined of the whole line: whether it holds words alone, their count up to 255, and their tones
 pub record Reading : Type 0 where
-  pub readable : (marks : Bool) (line : List ℕ) → isEmpty (lineEnd (readLine marks fresh line) .word) ≡ every (isWord marks) (words line)
+  pub readable : (marks : Bool) (line : List ℕ) → isRead (lineEnd (readLine marks fresh line)) ≡ every (isWord marks) (words line)
   pub count : (marks : Bool) (line : List ℕ)
       → every (isWord marks) (words line) ≡ true
       → lineEnd (readLine marks fresh line) .count ≡ min (length (words line)) 255

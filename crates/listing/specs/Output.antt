@@ -34,9 +34,13 @@ field n end = decimal n ++ (end ∷ [])
 unfoldable pub heading : List ℕ
 heading = ascii "BLOCK CHAR CODE LEAD\n"
 
--- block number, the character's place in it, code, lead
+-- block number, and a character's place in it
+unfoldable pub placeText : ℕ → ℕ → List ℕ
+placeText block place = field block space ++ field place space
+
+-- then code and lead
 unfoldable pub characterText : ℕ → ℕ → Character → List ℕ
-characterText block q character = field block space ++ field q space ++ field (character .code) space ++ field (character .lead) lineFeed
+characterText block q character = placeText block q ++ field (character .code) space ++ field (character .lead) lineFeed
 
 -- the lines of the first n characters
 unfoldable pub charactersText : ℕ → List Character → ℕ → List ℕ
@@ -45,7 +49,7 @@ charactersText block characters (suc n) = charactersText block characters n ++ c
 
 -- a block refused by 10: its place, `-` and lead
 unfoldable pub unclearText : ℕ → Refusal → List ℕ
-unclearText block r = field block space ++ field (r .place) space ++ ascii "- " ++ field (r .lead) lineFeed
+unclearText block r = placeText block (r .place) ++ ascii "- " ++ field (r .lead) lineFeed
 
 unfoldable pub refusedText : Refusal → List ℕ
 refusedText r = ascii "REFUSED " ++ field (r .number) space ++ field (r .place) lineFeed

@@ -81,6 +81,10 @@ lineEnd line = cond (isBlank line) line (wordEnd line)
 unfoldable pub endTones : Line → List ℕ → List ℕ
 endTones line tones = cond (isBlank line) tones (keptTone line tones)
 
+-- of a line that ended: every word of it was read
+abbrev pub isRead : Line → Bool
+isRead line = isEmpty (line .word)
+
 -- ---- the bytes of a line, one after the other
 
 unfoldable pub readLine : Bool → Line → List ℕ → Line

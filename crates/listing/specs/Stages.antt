@@ -18,7 +18,7 @@ use Rattle.listing.specs.declared.Listing.{Listing}
 use Rattle.listing.specs.declared.Progress.{Progress}
 use Rattle.listing.specs.Input.{lineFeed}
 use Rattle.listing.specs.Output.{answerText, goesOn, refusedText, unreadableText, endText}
-use Rattle.listing.specs.Reader.{fresh, isEmpty, isBlank, nextLine, nextTones, lineEnd, endTones}
+use Rattle.listing.specs.Reader.{fresh, isRead, isBlank, nextLine, nextTones, lineEnd, endTones}
 
 -- what is printed, and the state after it
 pub record Said : Type 0 where
@@ -70,7 +70,7 @@ checkedSaid b m =
 
 unfoldable pub settingsSaid : Line → List ℕ → Said
 settingsSaid line tones =
-    cond (isEmpty (line .word) && eqb (line .count) 2) (checkedSaid (num tones 0) (num tones 1)) (stops (unreadableText 1))
+    cond (isRead line && eqb (line .count) 2) (checkedSaid (num tones 0) (num tones 1)) (stops (unreadableText 1))
 
 unfoldable pub answerSaid : ℕ → ℕ → ℕ → Decoded → List Character → Said
 answerSaid b m k answer characters =
@@ -84,7 +84,7 @@ decodedSaid b m k d = answerSaid b m k (d .answer) (d .characters)
 -- the counts go round at 2^64
 unfoldable pub blockSaid : ℕ → ℕ → ℕ → Line → List ℕ → Said
 blockSaid b m k line tones =
-    cond (isEmpty (line .word)) (decodedSaid b m k (decodeBlock b m (take (line .count) tones) 8)) (stops (unreadableText ((k + 2) % 2 ^ 64)))
+    cond (isRead line) (decodedSaid b m k (decodeBlock b m (take (line .count) tones) 8)) (stops (unreadableText ((k + 2) % 2 ^ 64)))
 
 unfoldable pub judged : Stage → Listing → Line → List ℕ → Said
 judged Settings listing line tones = settingsSaid line tones

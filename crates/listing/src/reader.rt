@@ -7,7 +7,7 @@ ghost use mathlib.Core.Bool.{_&&_};
 ghost use Prim.Native.Nat.{_+_, min};
 ghost use lib.Dec.{eqb};
 ghost use Rattle.listing.specs.Input.{isDigit};
-ghost use Rattle.listing.specs.Reader.{fresh, numberWith, withDigit, withMark, nextWord, isWhole, isEmpty, toneIn, wordEnd, keptTone, nextLine, nextTones, isBlank, lineEnd, endTones};
+ghost use Rattle.listing.specs.Reader.{fresh, numberWith, withDigit, withMark, nextWord, isWhole, isEmpty, toneIn, wordEnd, keptTone, nextLine, nextTones, isBlank, lineEnd, endTones, isRead};
 
 const SPACE: u8 = b' ';
 
@@ -58,16 +58,22 @@ pub fn is_blank(line: Line) -> bool
     is_empty(word) && line.count == 0
 }
 
-// A line that ended has two words.
-pub fn is_pair(line: Line) -> bool
-    ensures { λ r. ⌜ r ≡ (isEmpty (line .word) && eqb (line .count) 2) ⌝ }
+// Of a line that ended: every word of it was read.
+pub fn is_readable(line: Line) -> bool
+    ensures { λ r. ⌜ r ≡ isRead line ⌝ }
 {
     let word = line.word;
-    is_empty(word) && line.count == 2
+    is_empty(word)
 }
 
-// Of a line that ended: it can be read.
-pub fn is_empty(word: Word) -> bool
+// Of a line that ended: it has two words.
+pub fn is_pair(line: Line) -> bool
+    ensures { λ r. ⌜ r ≡ (isRead line && eqb (line .count) 2) ⌝ }
+{
+    is_readable(line) && line.count == 2
+}
+
+fn is_empty(word: Word) -> bool
     ensures { λ r. ⌜ r ≡ isEmpty word ⌝ }
 {
     match word {

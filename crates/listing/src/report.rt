@@ -1,27 +1,36 @@
 // The lines of a listing, put at the output's front.
 use super::Stage;
-use super::number;
+use super::text;
 use refusal::Refusal;
 use walsh::Character;
 ghost use mathlib.Core.Path.{_≡_};
 ghost use Prim.Native.Nat.{_+_, _≤_};
 ghost use lib.ListN.{length};
-ghost use Rattle.listing.specs.Output.{characterText, charactersText, unclearText, refusedText, unreadableText, endText};
+ghost use Rattle.listing.specs.Output.{placeText, characterText, charactersText, unclearText, refusedText, unreadableText, endText};
 ghost use Rattle.listing.specs.Stages.{pasted, endingText};
 
 const SPACE: u8 = b' ';
 
 const LINE_FEED: u8 = b'\n';
 
+// What the lines of a block begin with: its number and a character's place in it.
+fn put_place(block: u64, place: usize, at: usize, out: &mut [u8]) -> usize
+    requires { ⌜ at + 42 ≤ length (now out) ⌝ }
+    ensures answer { λ r. ⌜ r ≡ at + length (placeText block place) ⌝ }
+    ensures output { λ _. ⌜ now (out .exit) ≡ pasted at (placeText block place) (now (out .entry)) ⌝ }
+{
+    let second = text::put_field(block, SPACE, at, out);
+    text::put_field(place as u64, SPACE, second, out)
+}
+
 fn put_character(block: u64, q: usize, character: Character, at: usize, out: &mut [u8]) -> usize
     requires { ⌜ at + 84 ≤ length (now out) ⌝ }
     ensures answer { λ r. ⌜ r ≡ at + length (characterText block q character) ⌝ }
     ensures output { λ _. ⌜ now (out .exit) ≡ pasted at (characterText block q character) (now (out .entry)) ⌝ }
 {
-    let place = number::put_field(block, SPACE, at, out);
-    let code = number::put_field(q as u64, SPACE, place, out);
-    let lead = number::put_field(character.code as u64, SPACE, code, out);
-    number::put_field(character.lead as u64, LINE_FEED, lead, out)
+    let code = put_place(block, q, at, out);
+    let lead = text::put_field(character.code as u64, SPACE, code, out);
+    text::put_field(character.lead as u64, LINE_FEED, lead, out)
 }
 
 // A line for each of the first count characters.
@@ -45,10 +54,9 @@ pub fn put_unclear(block: u64, refusal: Refusal, out: &mut [u8]) -> usize
     ensures answer { λ r. ⌜ r ≡ length (unclearText block refusal) ⌝ }
     ensures output { λ _. ⌜ now (out .exit) ≡ pasted 0 (unclearText block refusal) (now (out .entry)) ⌝ }
 {
-    let place = number::put_field(block, SPACE, 0, out);
-    let mark = number::put_field(refusal.place as u64, SPACE, place, out);
-    let lead = number::put_text(b"- ", mark, out);
-    number::put_field(refusal.lead as u64, LINE_FEED, lead, out)
+    let mark = put_place(block, refusal.place, 0, out);
+    let lead = text::put_text(b"- ", mark, out);
+    text::put_field(refusal.lead as u64, LINE_FEED, lead, out)
 }
 
 pub fn put_refused(refusal: Refusal, out: &mut [u8]) -> usize
@@ -56,9 +64,9 @@ pub fn put_refused(refusal: Refusal, out: &mut [u8]) -> usize
     ensures answer { λ r. ⌜ r ≡ length (refusedText refusal) ⌝ }
     ensures output { λ _. ⌜ now (out .exit) ≡ pasted 0 (refusedText refusal) (now (out .entry)) ⌝ }
 {
-    let number = number::put_text(b"REFUSED ", 0, out);
-    let place = number::put_field(refusal.number as u64, SPACE, number, out);
-    number::put_field(refusal.place as u64, LINE_FEED, place, out)
+    let number = text::put_text(b"REFUSED ", 0, out);
+    let place = text::put_field(refusal.number as u64, SPACE, number, out);
+    text::put_field(refusal.place as u64, LINE_FEED, place, out)
 }
 
 pub fn put_unreadable(line: u64, out: &mut [u8]) -> usize
@@ -66,8 +74,8 @@ pub fn put_unreadable(line: u64, out: &mut [u8]) -> usize
     ensures answer { λ r. ⌜ r ≡ length (unreadableText line) ⌝ }
     ensures output { λ _. ⌜ now (out .exit) ≡ pasted 0 (unreadableText line) (now (out .entry)) ⌝ }
 {
-    let number = number::put_text(b"REFUSED INPUT ", 0, out);
-    number::put_field(line, LINE_FEED, number, out)
+    let number = text::put_text(b"REFUSED INPUT ", 0, out);
+    text::put_field(line, LINE_FEED, number, out)
 }
 
 fn put_end(blocks: u64, out: &mut [u8]) -> usize
@@ -75,8 +83,8 @@ fn put_end(blocks: u64, out: &mut [u8]) -> usize
     ensures answer { λ r. ⌜ r ≡ length (endText blocks) ⌝ }
     ensures output { λ _. ⌜ now (out .exit) ≡ pasted 0 (endText blocks) (now (out .entry)) ⌝ }
 {
-    let number = number::put_text(b"END ", 0, out);
-    number::put_field(blocks, LINE_FEED, number, out)
+    let number = text::put_text(b"END ", 0, out);
+    text::put_field(blocks, LINE_FEED, number, out)
 }
 
 // The last line, if there is one.

@@ -1,6 +1,6 @@
 use borrow.Author.Needs.{needs}
-use borrow.Author.Tests.{le-leb, lt-leb}
-use Rattle.listing.specs.Reader.{numberWith}
+use mathlib.Core.Path.{sym}
+use Rattle.listing.proofs.ReaderCases.{number-within, number-over}
 use Rattle.listing.proofs.reader.number_with.Statement.{statement}
 use Rattle.listing.proofs.reader.number_with.Tie as tie
 
@@ -11,15 +11,13 @@ add-longer : tie.Need-add-longer
 add-longer c = search needs
 
 returns : tie.Need-returns
-unfolding numberWith
-returns c = rw (lt-leb _ _ (c .if1 .taken))
+returns c = sym (number-over _ _ (c .if1 .taken))
 
 cast-t8 : tie.Need-cast-t8
 cast-t8 c = search needs
 
 returns-2 : tie.Need-returns-2
-unfolding numberWith
-returns-2 c = rw (le-leb _ _ (c .if1 .left))
+returns-2 c = sym (number-within _ _ (c .if1 .left))
 
 pub number-with-spec : {M : Type 1} → statement M
 number-with-spec = tie.close (tie.spec mul-longer add-longer returns cast-t8 returns-2)

@@ -1,5 +1,4 @@
 use borrow.Author.Needs.{needs}
-use mathlib.Core.Path.{_∙_, sym, ap}
 use Rattle.listing.specs.Reader.{withDigit}
 use Rattle.listing.proofs.reader.with_digit.Statement.{statement}
 use Rattle.listing.proofs.reader.with_digit.Tie as tie

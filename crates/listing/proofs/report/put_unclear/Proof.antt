@@ -1,21 +1,14 @@
 use borrow.Author.Needs.{needs}
 use native.Mathlib.Omega.{arith}
 use Rattle.walsh.specs.Lists.{tab}
-use Rattle.listing.specs.Input.{space}
 use Rattle.listing.specs.Output.{ascii, unclearText}
-use Rattle.listing.proofs.TextBounds.{field-length}
+use Rattle.listing.proofs.TextBounds.{place-length}
 use Rattle.listing.proofs.Pasting.{put-after, put-front}
 use Rattle.listing.proofs.report.put_unclear.Statement.{statement}
 use Rattle.listing.proofs.report.put_unclear.Tie as tie
 
-put-field-requires : tie.Need-put-field-requires
-put-field-requires c κs = search needs
-
-put-field-requires-2 : tie.Need-put-field-requires-2
-put-field-requires-2 c κs =
-    let f = c .before .before .before in
-    let a = f .before .before .before .args in
-    omega (arith, f .put-field .ensures .0, f .put-field .kept .1 .1 .1 .0, field-length (a .block) space (omega arith))
+put-place-requires : tie.Need-put-place-requires
+put-place-requires c κs = search needs
 
 slice-aggregate-put-text : tie.Need-slice-aggregate-put-text
 slice-aggregate-put-text c = search needs
@@ -23,37 +16,24 @@ slice-aggregate-put-text c = search needs
 put-text-requires : tie.Need-put-text-requires
 put-text-requires c κs =
     let f = c .before .before .before .before in
-    let g = f .before .before .before .before in
-    let a = g .before .before .before .args in
-    omega (
-      arith,
-      f .put-field2 .ensures .0,
-      f .put-field2 .kept .1 .1 .1 .0,
-      g .put-field .ensures .0,
-      g .put-field .kept .1 .1 .1 .0,
-      field-length (a .block) space (omega arith),
-      field-length (a .refusal .place) space (omega arith),
-    )
+    let a = f .before .before .before .args in
+    omega (arith, f .put-place .ensures .0, f .put-place .kept .1 .1 .1 .0, place-length (a .block) (a .refusal .place) (omega arith) (omega arith))
 
 cast-put-field : tie.Need-cast-put-field
 cast-put-field c = search needs
 
-put-field-requires-3 : tie.Need-put-field-requires-3
-put-field-requires-3 c κs =
-    let e = c .before .before .before .before in
-    let f = e .before .before .before .before .before in
-    let g = f .before .before .before .before in
+put-field-requires : tie.Need-put-field-requires
+put-field-requires c κs =
+    let f = c .before .before .before .before in
+    let g = f .before .before .before .before .before in
     let a = g .before .before .before .args in
     omega (
       arith,
-      e .put-text .ensures .0,
-      e .put-text .kept .1 .1 .0,
-      f .put-field2 .ensures .0,
-      f .put-field2 .kept .1 .1 .1 .0,
-      g .put-field .ensures .0,
-      g .put-field .kept .1 .1 .1 .0,
-      field-length (a .block) space (omega arith),
-      field-length (a .refusal .place) space (omega arith),
+      f .put-text .ensures .0,
+      f .put-text .kept .1 .1 .0,
+      g .put-place .ensures .0,
+      g .put-place .kept .1 .1 .1 .0,
+      place-length (a .block) (a .refusal .place) (omega arith) (omega arith),
     )
 
 same-length : tie.Need-same-length
@@ -62,32 +42,25 @@ same-length c = search needs
 returns : tie.Need-returns
 unfolding unclearText ascii tab
 returns c =
-    let e = c .before .before .before .before .before .before .before in
-    let f = e .before .before .before .before .before in
-    let g = f .before .before .before .before in
-    let s = g .before .before .before in
-    let a = s .args in
-    let block = field-length (a .block) space (omega arith) in
-    let place = field-length (a .refusal .place) space (omega (arith, s .good)) in
-    let first = g .put-field .ensures in
-    let second = f .put-field2 .ensures in
-    let third = e .put-text .ensures in
+    let f = c .before .before .before .before .before .before .before in
+    let g = f .before .before .before .before .before in
+    let a = g .before .before .before .args in
+    let place = place-length (a .block) (a .refusal .place) (omega arith) (omega arith) in
+    let first = g .put-place .ensures in
+    let second = f .put-text .ensures in
     put-front _ _
-    (put-after _ _ _ _ (omega (arith, first .0, second .0, third .0, block, place))
-    (put-after _ _ _ _ (omega (arith, first .0, second .0, block, place))
-    (put-after _ _ _ _ (omega (arith, first .0, block)) first second)
-    third)
-    (c .before .before .put-field3 .ensures))
+    (put-after _ _ _ _ (omega (arith, first .0, second .0, place))
+    (put-after _ _ _ _ (omega (arith, first .0, place)) first second)
+    (c .before .before .put-field .ensures))
 
 pub put-unclear-spec : {M : Type 1} → statement M
 put-unclear-spec =
     tie.close
     (tie.spec
-    put-field-requires
-    put-field-requires-2
+    put-place-requires
     slice-aggregate-put-text
     put-text-requires
     cast-put-field
-    put-field-requires-3
+    put-field-requires
     same-length
     returns)

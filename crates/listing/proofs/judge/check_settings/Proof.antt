@@ -7,8 +7,8 @@ use Rattle.listing.specs.Output.{refusedText}
 use Rattle.listing.specs.Stages.{pasted}
 use Rattle.listing.proofs.StageCases.{says-mode, says-lead, says-nothing}
 use Rattle.listing.proofs.Tellings.{tells-as, tells-text, tells-nothing}
-use Rattle.listing.proofs.check_settings.Statement.{statement}
-use Rattle.listing.proofs.check_settings.Tie as tie
+use Rattle.listing.proofs.judge.check_settings.Statement.{statement}
+use Rattle.listing.proofs.judge.check_settings.Tie as tie
 
 is-mode-requires : tie.Need-is-mode-requires
 is-mode-requires c κs = search needs

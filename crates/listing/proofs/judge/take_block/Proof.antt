@@ -8,11 +8,11 @@ use Rattle.refusal.proofs.Limits.{mode-range}
 use Rattle.listing.specs.Stages.{decodedSaid}
 use Rattle.listing.proofs.StageCases.{says-unreadable, says-decoded, says-answer, says-text, says-without}
 use Rattle.listing.proofs.Tellings.{tells-as, tells-text}
-use Rattle.listing.proofs.take_block.Statement.{statement}
-use Rattle.listing.proofs.take_block.Tie as tie
+use Rattle.listing.proofs.judge.take_block.Statement.{statement}
+use Rattle.listing.proofs.judge.take_block.Tie as tie
 
-is-empty-requires : tie.Need-is-empty-requires
-is-empty-requires c κs = search needs
+is-readable-requires : tie.Need-is-readable-requires
+is-readable-requires c κs = search needs
 
 wrapping-add-u64-requires : tie.Need-wrapping-add-u64-requires
 wrapping-add-u64-requires c κs = search needs
@@ -30,7 +30,7 @@ returns c =
     let line = c .before .before .before .wrapping-add-u64 .ensures in
     tells-as
     _
-    (says-unreadable _ _ _ _ _ (sym (t .before .is-empty .ensures) ∙ not-true _ (t .if1 .taken)))
+    (says-unreadable _ _ _ _ _ (sym (t .before .is-readable .ensures) ∙ not-true _ (t .if1 .taken)))
     (tells-text _ _ (c .stopped .ensures) (rw (← line) (put .0)) (rw (← line) (put .1)))
 
 decide-requires : tie.Need-decide-requires
@@ -66,7 +66,7 @@ returns-2 c =
     let put = c .before .put-characters .ensures in
     tells-as
     _
-    (says-decoded _ _ _ _ _ (sym (t .before .is-empty .ensures) ∙ not-false _ (t .if1 .left))
+    (says-decoded _ _ _ _ _ (sym (t .before .is-readable .ensures) ∙ not-false _ (t .if1 .left))
     ∙ ap (decodedSaid _ _ _) (sym (d .decide .ensures))
     ∙ says-answer _ _ _ _ (a .answer .given .1)
     ∙ says-text _ _ _ _ _)
@@ -79,7 +79,7 @@ returns-3 c =
     let t = d .before .before in
     tells-as
     _
-    (says-decoded _ _ _ _ _ (sym (t .before .is-empty .ensures) ∙ not-false _ (t .if1 .left))
+    (says-decoded _ _ _ _ _ (sym (t .before .is-readable .ensures) ∙ not-false _ (t .if1 .left))
     ∙ ap (decodedSaid _ _ _) (sym (d .decide .ensures))
     ∙ says-answer _ _ _ _ (a .answer2 .given .1)
     ∙ says-without _ _ _ _ _)
@@ -89,7 +89,7 @@ pub take-block-spec : {M : Type 1} → statement M
 take-block-spec =
     tie.close
     (tie.spec
-    is-empty-requires
+    is-readable-requires
     wrapping-add-u64-requires
     put-unreadable-requires
     stopped-requires

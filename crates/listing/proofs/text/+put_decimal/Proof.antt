@@ -9,11 +9,11 @@ use Rattle.listing.proofs.Digits.{decimal-small, decimal-more, decimal-
 use Rattle.listing.proofs.Pasting.{put-first, put-byte}
 use borrow.Fn.Kinds.{In}
 use borrow.Fn.PlainCycle.{Measures, is, falls, and}
-use Rattle.listing.proofs.number.put_decimal.Reads as put-decimal
-use Rattle.listing.proofs.number.put_decimal.Kinds as put-decimal-kinds
-use Rattle.listing.proofs.number.+put_decimal.Lts-put_decimal as put-decimal-lts
-use Rattle.listing.proofs.number.+put_decimal.{statement}
-use Rattle.listing.proofs.number.+put_decimal.Tie.{close}
+use Rattle.listing.proofs.text.put_decimal.Reads as put-decimal
+use Rattle.listing.proofs.text.put_decimal.Kinds as put-decimal-kinds
+use Rattle.listing.proofs.text.+put_decimal.Lts-put_decimal as put-decimal-lts
+use Rattle.listing.proofs.text.+put_decimal.{statement}
+use Rattle.listing.proofs.text.+put_decimal.Tie.{close}
 
 abbrev μ-put-decimal : Measures 1 put-decimal-kinds.ps ℕ
 μ-put-decimal κs a = a .0

@@ -2,8 +2,8 @@ use borrow.Author.Needs.{needs}
 use mathlib.Core.Path.{sym}
 use native.Mathlib.Omega.{arith}
 use lib.Seq.{length-take-le}
-use Rattle.listing.proofs.decide.Statement.{statement}
-use Rattle.listing.proofs.decide.Tie as tie
+use Rattle.listing.proofs.judge.decide.Statement.{statement}
+use Rattle.listing.proofs.judge.decide.Tie as tie
 
 slice-aggregate-decide-block : tie.Need-slice-aggregate-decide-block
 slice-aggregate-decide-block c =

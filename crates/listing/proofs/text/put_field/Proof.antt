@@ -4,8 +4,8 @@ use borrow.Author.Needs.{needs}
 use Rattle.listing.specs.Output.{decimal, field}
 use Rattle.listing.proofs.Digits.{decimal-short}
 use Rattle.listing.proofs.Pasting.{put-byte}
-use Rattle.listing.proofs.number.put_field.Statement.{statement}
-use Rattle.listing.proofs.number.put_field.Tie as tie
+use Rattle.listing.proofs.text.put_field.Statement.{statement}
+use Rattle.listing.proofs.text.put_field.Tie as tie
 
 put-decimal-requires : tie.Need-put-decimal-requires
 put-decimal-requires c κs = omega (arith, decimal-short (c .before .before .args .n) (omega arith))

@@ -3,8 +3,8 @@ use mathlib.Core.Path.{sym, ap₂, _∙_}
 use Rattle.listing.specs.Stages.{settingsSaid, blockSaid}
 use Rattle.listing.proofs.StageCases.{closes-settings, closes-block, closes-stopped}
 use Rattle.listing.proofs.Tellings.{tells-as, tells-nothing}
-use Rattle.listing.proofs.close.Statement.{statement}
-use Rattle.listing.proofs.close.Tie as tie
+use Rattle.listing.proofs.judge.close.Statement.{statement}
+use Rattle.listing.proofs.judge.close.Tie as tie
 
 end-line-requires : tie.Need-end-line-requires
 end-line-requires c κs = search needs

@@ -2,8 +2,8 @@ use borrow.Author.Needs.{needs}
 use mathlib.Core.Path.{ap}
 use Rattle.listing.specs.declared.Line.{Line}
 use Rattle.listing.specs.declared.Stage.the-variants.{Stopped}
-use Rattle.listing.proofs.stopped.Statement.{statement}
-use Rattle.listing.proofs.stopped.Tie as tie
+use Rattle.listing.proofs.judge.stopped.Statement.{statement}
+use Rattle.listing.proofs.judge.stopped.Tie as tie
 
 fresh-requires : tie.Need-fresh-requires
 fresh-requires c κs = search needs

@@ -3,8 +3,8 @@ use mathlib.Core.Path.{sym, _∙_}
 use borrow.Author.Tests.{not-true, not-false}
 use Rattle.listing.proofs.StageCases.{says-no-pair, says-pair}
 use Rattle.listing.proofs.Tellings.{tells-as, tells-text}
-use Rattle.listing.proofs.take_settings.Statement.{statement}
-use Rattle.listing.proofs.take_settings.Tie as tie
+use Rattle.listing.proofs.judge.take_settings.Statement.{statement}
+use Rattle.listing.proofs.judge.take_settings.Tie as tie
 
 is-pair-requires : tie.Need-is-pair-requires
 is-pair-requires c κs = search needs

@@ -8,8 +8,8 @@ use lib.ListN.{length, take, getD, length-set}
 use lib.Seq.{length-take-le, take-suc, take-all}
 use Rattle.listing.specs.Stages.{pasted}
 use Rattle.listing.proofs.Pasting.{put-none, put-byte}
-use Rattle.listing.proofs.number.put_text.Statement.{statement}
-use Rattle.listing.proofs.number.put_text.Tie as tie
+use Rattle.listing.proofs.text.put_text.Statement.{statement}
+use Rattle.listing.proofs.text.put_text.Tie as tie
 
 abbrev Inv-loop : tie.InvT-loop
 Inv-loop text at out₀ i₀ out i = (i ≤ length text) × ((length out ≡ length out₀) × (out ≡ pasted at (take i text) out₀))

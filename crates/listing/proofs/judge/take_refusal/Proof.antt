@@ -1,9 +1,8 @@
 use borrow.Author.Needs.{needs}
-use mathlib.Core.Path.{sym, _∙_, ap}
 use Rattle.listing.proofs.StageCases.{says-unclear, says-refused}
 use Rattle.listing.proofs.Tellings.{tells-as, tells-text}
-use Rattle.listing.proofs.take_refusal.Statement.{statement}
-use Rattle.listing.proofs.take_refusal.Tie as tie
+use Rattle.listing.proofs.judge.take_refusal.Statement.{statement}
+use Rattle.listing.proofs.judge.take_refusal.Tie as tie
 
 wrapping-add-u64-requires : tie.Need-wrapping-add-u64-requires
 wrapping-add-u64-requires c κs = search needs

@@ -2,8 +2,8 @@ use borrow.Author.Needs.{needs}
 use mathlib.Core.Path.{ap}
 use Rattle.listing.specs.declared.Line.{Line}
 use Rattle.listing.specs.declared.Stage.the-variants.{Blocks}
-use Rattle.listing.proofs.hearing.Statement.{statement}
-use Rattle.listing.proofs.hearing.Tie as tie
+use Rattle.listing.proofs.judge.hearing.Statement.{statement}
+use Rattle.listing.proofs.judge.hearing.Tie as tie
 
 fresh-requires : tie.Need-fresh-requires
 fresh-requires c κs = search needs
