@@ -16,7 +16,7 @@ use Rattle.listing.specs.declared.Listing.{Listing}
 use Rattle.listing.specs.Input.{lineFeed, onFirst, lines}
 use Rattle.listing.specs.Output.{goesOn}
 use Rattle.listing.specs.Reader.{fresh, isEmpty, isBlank, nextLine, nextTones, lineEnd, endTones, readLine, readTones}
-use Rattle.listing.specs.Stages.{Said, stopped, isStopped, takesMarks, checkedSaid, settingsSaid, answerSaid, decodedSaid, blockSaid, judged, closed, within-line, stepped, steppedTones, endingText, lastLine, finished, printed}
+use Rattle.listing.specs.Stages.{Said, stopped, isStopped, takesMarks, checkedSaid, settingsSaid, answerSaid, decodedSaid, blockSaid, judged, closed, withinLine, stepped, steppedTones, endingText, lastLine, finished, printed}
 use Rattle.listing.proofs.StageCases.{closes-stopped, closes-last}
 use Rattle.listing.proofs.LineReading.{next-not-blank}
 
@@ -82,13 +82,13 @@ unfolding finished
 finished-within s tones e = rw (closes-last s tones e)
 
 -- a byte that is read before the lines
-byte-first : (s : Listing) (tones : List ℕ) (c : ℕ) (ls : List (List ℕ)) → fromLines (within-line s c) (nextTones (s .line) c tones) ls ≡ fromLines s tones (onFirst c ls)
-unfolding fromLines lineSaid lineTones lineRead tonesRead readLine readTones within-line onFirst
+byte-first : (s : Listing) (tones : List ℕ) (c : ℕ) (ls : List (List ℕ)) → fromLines (withinLine s c) (nextTones (s .line) c tones) ls ≡ fromLines s tones (onFirst c ls)
+unfolding fromLines lineSaid lineTones lineRead tonesRead readLine readTones withinLine onFirst
 byte-first s tones c [] =
     let x = nextTones (s .line) c tones in
-    finished-within (within-line s c) x (next-not-blank (takesMarks (s .stage)) (s .line) c)
-    ∙ ap (λ (y : List ℕ). closed (within-line s c) x .text ++ y)
-    (sym (finished-after (within-line s c) x (endTones (nextLine (takesMarks (s .stage)) (s .line) c) x)))
+    finished-within (withinLine s c) x (next-not-blank (takesMarks (s .stage)) (s .line) c)
+    ∙ ap (λ (y : List ℕ). closed (withinLine s c) x .text ++ y)
+    (sym (finished-after (withinLine s c) x (endTones (nextLine (takesMarks (s .stage)) (s .line) c) x)))
 byte-first s tones c (line ∷ ls) = refl
 
 pub printed-lines : (cs : List ℕ) (s : Listing) (tones : List ℕ) → printed s tones cs ≡ fromLines s tones (lines cs)
@@ -97,11 +97,11 @@ printed-lines [] s tones = refl
 printed-lines (c ∷ cs) s tones = by (eqb c lineFeed) (printed-lines cs)
   where
     by : (t : Bool) → ((s : Listing) (tones : List ℕ) → printed s tones cs ≡ fromLines s tones (lines cs))
-        → cond t (closed s tones) (record { text = []; next = within-line s c }) .text
-        ++ printed (cond t (closed s tones) (record { text = []; next = within-line s c }) .next) (cond t (endTones (s .line) tones) (nextTones (s .line) c tones)) cs
+        → cond t (closed s tones) (record { text = []; next = withinLine s c }) .text
+        ++ printed (cond t (closed s tones) (record { text = []; next = withinLine s c }) .next) (cond t (endTones (s .line) tones) (nextTones (s .line) c tones)) cs
         ≡ fromLines s tones (cond t ([] ∷ lines cs) (onFirst c (lines cs)))
     by true r = ap (λ (x : List ℕ). closed s tones .text ++ x) (r (closed s tones .next) (endTones (s .line) tones))
-    by false r = r (within-line s c) (nextTones (s .line) c tones) ∙ byte-first s tones c (lines cs)
+    by false r = r (withinLine s c) (nextTones (s .line) c tones) ∙ byte-first s tones c (lines cs)
 
 -- ---- a listing that stopped
 

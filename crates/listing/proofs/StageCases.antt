@@ -21,7 +21,7 @@ use Rattle.listing.specs.declared.Stage.the-variants.{Settings, Blocks, 
 use Rattle.listing.specs.Input.{lineFeed}
 use Rattle.listing.specs.Output.{answerText, goesOn, charactersText, unclearText, refusedText, unreadableText}
 use Rattle.listing.specs.Reader.{isEmpty, isBlank, nextTones, lineEnd, endTones}
-use Rattle.listing.specs.Stages.{hearing, stops, checkedSaid, settingsSaid, answerSaid, decodedSaid, blockSaid, judged, closed, within-line, stepped, steppedTones, lastLine}
+use Rattle.listing.specs.Stages.{hearing, stops, checkedSaid, settingsSaid, answerSaid, decodedSaid, blockSaid, judged, closed, withinLine, stepped, steppedTones, lastLine}
 
 module _ (b m : ℕ) where
   pub says-mode : isMode b ≡ false → checkedSaid b m ≡ stops (refusedText (refusedAt 1 0))
@@ -97,7 +97,7 @@ module _ (listing : Listing) (tones : List ℕ) where
     unfolding stepped steppedTones
     says-line-feed e = (rw (eq-eqb c lineFeed e), rw (eq-eqb c lineFeed e))
 
-    pub says-byte : (c ≡ lineFeed → ⊥) → (stepped listing c tones ≡ record { text = []; next = within-line listing c }) × (steppedTones listing c tones ≡ nextTones (listing .line) c tones)
+    pub says-byte : (c ≡ lineFeed → ⊥) → (stepped listing c tones ≡ record { text = []; next = withinLine listing c }) × (steppedTones listing c tones ≡ nextTones (listing .line) c tones)
     unfolding stepped steppedTones
     says-byte e = (rw (ne-eqb c lineFeed e), rw (ne-eqb c lineFeed e))
 

@@ -25,11 +25,11 @@ pub record Said : Type 0 where
   pub text : List ℕ
   pub next : Listing
 
--- what an entry answers of it, and what it leaves in the output
+-- what an entry answers of it
 abbrev pub told : Said → Progress
 told s = record { listing = s .next; written = length (s .text) }
 
--- a text at place at, over what stood there
+-- an output with a text at place at, over what stood there
 unfoldable pub pasted : ℕ → List ℕ → List ℕ → List ℕ
 pasted at text out = take at out ++ text ++ drop (at + length text) out
 
@@ -62,6 +62,7 @@ takesMarks Stopped = true
 abbrev pub stops : List ℕ → Said
 stops text = record { text = text; next = stopped }
 
+-- mode and set lead of line 1
 unfoldable pub checkedSaid : ℕ → ℕ → Said
 checkedSaid b m =
     cond (not (isMode b)) (stops (refusedText (refusedAt 1 0)))
@@ -81,7 +82,7 @@ answerSaid b m k answer characters =
 unfoldable pub decodedSaid : ℕ → ℕ → ℕ → BlockDecoded → Said
 decodedSaid b m k d = answerSaid b m k (d .answer) (d .characters)
 
--- the counts go round at 2^64
+-- readability of the whole line is judged first; counts go round at 2^64
 unfoldable pub blockSaid : ℕ → ℕ → ℕ → Line → List ℕ → Said
 blockSaid b m k line tones =
     cond (isRead line) (decodedSaid b m k (decodeBlock b m (take (line .count) tones) 8)) (stops (unreadableText ((k + 2) % 2 ^ 64)))
@@ -96,8 +97,9 @@ closed listing tones = judged (listing .stage) listing (lineEnd (listing .line))
 
 -- ---- a byte, and the end of the input
 
-unfoldable pub within-line : Listing → ℕ → Listing
-within-line listing c =
+-- a byte that is no line feed
+unfoldable pub withinLine : Listing → ℕ → Listing
+withinLine listing c =
     record {
       stage = listing .stage;
       mode = listing .mode;
@@ -107,7 +109,7 @@ within-line listing c =
     }
 
 unfoldable pub stepped : Listing → ℕ → List ℕ → Said
-stepped listing c tones = cond (eqb c lineFeed) (closed listing tones) (record { text = []; next = within-line listing c })
+stepped listing c tones = cond (eqb c lineFeed) (closed listing tones) (record { text = []; next = withinLine listing c })
 
 unfoldable pub steppedTones : Listing → ℕ → List ℕ → List ℕ
 steppedTones listing c tones = cond (eqb c lineFeed) (endTones (listing .line) tones) (nextTones (listing .line) c tones)

@@ -3,7 +3,7 @@ use mathlib.Core.Path.{sym, ap, _∙_}
 use mathlib.Core.Bool.{Bool}
 use Rattle.listing.specs.declared.Line.{Line}
 use Rattle.listing.specs.Reader.{nextLine}
-use Rattle.listing.specs.Stages.{within-line}
+use Rattle.listing.specs.Stages.{withinLine}
 use Rattle.listing.proofs.StageCases.{says-line-feed, says-byte}
 use Rattle.listing.proofs.Tellings.{tells-as, tells-nothing}
 use Rattle.listing.proofs.step.Statement.{statement}
@@ -26,7 +26,7 @@ read-requires : tie.Need-read-requires
 read-requires c κs = search needs
 
 returns-2 : tie.Need-returns-2
-unfolding within-line
+unfolding withinLine
 returns-2 c =
     let a = c .before .before .before .before .before .args in
     let s = a .listing in
