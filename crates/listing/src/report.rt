@@ -1,4 +1,4 @@
-// The lines of a listing, put at the output's front.
+// The lines of a listing, put at the output's front. A number has 20 digits at most, and each function asks for the room of its longest text.
 use super::Stage;
 use super::text;
 use refusal::Refusal;

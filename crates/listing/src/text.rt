@@ -29,7 +29,7 @@ pub fn put_field(n: u64, end: u8, at: usize, out: &mut [u8]) -> usize
     after + 1
 }
 
-// The digits before the last first.
+// A number's digits: those of its tenth, and then its last.
 fn put_decimal(n: u64, at: usize, out: &mut [u8]) -> usize
     requires { ⌜ at + length (decimal n) ≤ length (now out) ⌝ }
     ensures answer { λ r. ⌜ r ≡ at + length (decimal n) ⌝ }
