@@ -10,3 +10,4 @@ pub mod StageCases
 pub mod Tellings
 pub mod Pieces
 pub mod Listings
+pub mod Computed

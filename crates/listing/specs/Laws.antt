@@ -6,7 +6,7 @@ use Prim.Native.Nat.{ℕ, _<_, _^_, min}
 use lib.ListN.{length, take}
 use Rattle.listing.specs.declared.Listing.{Listing}
 use Rattle.listing.specs.Input.{words, every, isWord, isDigit, tonesOf, valueFrom}
-use Rattle.listing.specs.Output.{decimal, heading}
+use Rattle.listing.specs.Output.{ascii, decimal, heading}
 use Rattle.listing.specs.Listed.{listed}
 use Rattle.listing.specs.Reader.{fresh, isRead, lineEnd, endTones, readLine, readTones}
 use Rattle.listing.specs.Stages.{begun, isStopped, printed}
@@ -31,3 +31,8 @@ pub record Reading : Type 0 where
 pub record Whole : Type 0 where
   pub all : (input tones : List ℕ) → length tones ≡ 256 → length input < 2 ^ 64 → heading ++ printed begun tones input ≡ listed input
   pub silent : (listing : Listing) (tones input : List ℕ) → isStopped (listing .stage) ≡ true → printed listing tones input ≡ []
+
+-- document 01's example, for the key's bits 0 to 63, and what it says of an empty input
+pub record Example : Type 0 where
+  pub key-bits : listed (ascii "1 64\n0 0 1 1 0 1 1 1 0 0 1 0 1 1 1 0 1 0 1 0 1 0 0 0 1 0 0 1 0 1 0 0 0 0 0 0 1 0 1 1 0 1 1 0 0 1 1 1 1 1 1 0 1 0 1 0 0 1 0 0 0 1 1 1\n") ≡ ascii "BLOCK CHAR CODE LEAD\n0 0 0 64\nEND 1\n"
+  pub empty : listed [] ≡ ascii "BLOCK CHAR CODE LEAD\nREFUSED INPUT 1\n"
