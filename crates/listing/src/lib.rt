@@ -11,6 +11,11 @@ mod reader;
 mod report;
 mod text;
 
+// What parts the fields of a line, and the lines.
+const SPACE: u8 = b' ';
+
+const LINE_FEED: u8 = b'\n';
+
 // The bytes that a text has room for: eight lines of four numbers take 672 at most, and no other line more.
 pub const ROOM: usize = 1024;
 
@@ -77,7 +82,7 @@ pub fn step(listing: Listing, byte: u8, tones: &mut [u16; TONES], out: &mut [u8;
     ensures kept { λ _. ⌜ now (tones .exit) ≡ steppedTones listing byte (now (tones .entry)) ⌝ }
     ensures output { λ _. ⌜ now (out .exit) ≡ pasted 0 (stepped listing byte (now (tones .entry)) .text) (now (out .entry)) ⌝ }
 {
-    if byte == b'\n' {
+    if byte == LINE_FEED {
         return judge::close(listing, tones, out);
     }
     let stage = listing.stage;

@@ -1,5 +1,6 @@
 // The reader of a line, byte by byte.
 use super::Line;
+use super::SPACE;
 use super::TONES;
 use super::Word;
 ghost use mathlib.Core.Path.{_≡_};
@@ -9,9 +10,9 @@ ghost use lib.Dec.{eqb};
 ghost use Rattle.listing.specs.Input.{isDigit};
 ghost use Rattle.listing.specs.Reader.{fresh, numberWith, withDigit, withMark, nextWord, isWhole, isEmpty, toneIn, wordEnd, keptTone, nextLine, nextTones, isBlank, lineEnd, endTones, isRead};
 
-const SPACE: u8 = b' ';
-
+// The mark of a missing tone.
 const HYPHEN: u8 = b'-';
+
 // The largest number that may stand in the input.
 const LARGEST: u32 = 65535;
 

@@ -1,4 +1,6 @@
 // The lines of a listing, put at the output's front. A number has 20 digits at most, and each function asks for the room of its longest text.
+use super::LINE_FEED;
+use super::SPACE;
 use super::Stage;
 use super::text;
 use refusal::Refusal;
@@ -8,10 +10,6 @@ ghost use Prim.Native.Nat.{_+_, _≤_};
 ghost use lib.ListN.{length};
 ghost use Rattle.listing.specs.Output.{placeText, characterText, charactersText, unclearText, refusedText, unreadableText, endText};
 ghost use Rattle.listing.specs.Stages.{pasted, endingText};
-
-const SPACE: u8 = b' ';
-
-const LINE_FEED: u8 = b'\n';
 
 // What the lines of a block begin with: its number and a character's place in it.
 fn put_place(block: u64, place: usize, at: usize, out: &mut [u8]) -> usize
