@@ -1,7 +1,8 @@
 pub mod Lists
 pub mod Tallies
 pub mod Xors
-pub mod Places
+pub mod Weights
+pub mod Keys
 pub mod Tabled
 pub mod Binary
 pub mod Turns

@@ -8,7 +8,7 @@ use native.Mathlib.Nat.{sub-zero}
 use native.Mathlib.Numerals.{add-one}
 use native.Mathlib.Omega.{arith}
 use lib.ListN.{length, getD, set, drop, length-append, length-drop, drop-of-length-le, List·getD-append}
-use lib.Seq.{drop-cons, set-at}
+use lib.Seq.{drop-cons, set-at, getD-at}
 use Rattle.walsh.specs.Lists.{tab}
 use Rattle.walsh.proofs.Tables.{tab-length, tab-at, is-tab}
 use Rattle.block.specs.Lists.{filled, scan}
@@ -107,6 +107,11 @@ filled-length f n d h = simp (length-append, tab-length, length-drop) (omega ari
 pub filled-at : {A : Type 0} (f : ℕ → A) (z : A) (n : ℕ) (d : List A) (i : ℕ) → i < n → getD (filled f n d) i z ≡ f i
 unfolding filled
 filled-at f z n d i h = List·getD-append (tab f n) (drop n d) z i (rw tab-length h) ∙ tab-at f z n i h
+
+-- the place after the front is as it was
+pub filled-next : {A : Type 0} (f : ℕ → A) (z : A) (n : ℕ) (d : List A) → n < length d → getD (filled f n d) n z ≡ getD d n z
+unfolding filled
+filled-next f z n d h = rw (drop-cons d n z h) (getD-at (tab f n) (getD d n z) (drop (suc n) d) z n (tab-length f n))
 
 pub filled-whole : {A : Type 0} (f : ℕ → A) (n : ℕ) (d : List A) → length d ≤ n → filled f n d ≡ tab f n
 unfolding filled

@@ -2,6 +2,7 @@
 use super::MISSING;
 use super::gray;
 use super::interleaver;
+use super::scrambler;
 use walsh::Character;
 ghost use mathlib.Core.Path.{_≡_};
 ghost use mathlib.Core.Logic.{_⊎_};
@@ -38,14 +39,16 @@ fn heard_symbols(tones: &[u16]) -> [u16; 64]
 
 // The decisions on the characters of a block.
 pub fn characters(mode: usize, tones: &[u16]) -> [Character; 8]
-    requires { ⌜ (mode ≤ 8) × HasTones 256 (now tones) ⌝ }
+    requires { ⌜ (1 ≤ mode) × (mode ≤ 8) × HasTones 256 (now tones) ⌝ }
     ensures { λ r. ⌜ r ≡ charactersOf mode (now (tones .entry)) ⌝ }
 {
     let symbols = heard_symbols(tones);
+    let keys = scrambler::keys();
+    let weights = interleaver::weights(mode);
     let mut characters = [Character { code: 0, lead: 0 }; 8];
     let mut q: usize = 0;
     while q < mode {
-        characters[q] = walsh::decide(interleaver::counts(mode, q, &symbols));
+        characters[q] = walsh::decide(interleaver::counts(q, &keys, &weights, &symbols));
         q += 1;
     }
     characters

@@ -27,11 +27,10 @@ pub fn put_tones(mode: usize, codes: &[u8], tones: &mut [u16])
     requires { ⌜ (1 ≤ mode) × (mode ≤ 8) × (length (now codes) ≡ mode) × (64 ≤ length (now tones)) ⌝ }
     ensures { λ _. ⌜ now (tones .exit) ≡ filled (toneAt mode (now (codes .entry))) 64 (now (tones .entry)) ⌝ }
 {
-    let mut turn: usize = 0;
+    let symbols = interleaver::symbols(mode, codes);
     let mut t: usize = 0;
     while t < 64 {
-        tones[t] = gray::tone_of(interleaver::symbol(mode, codes, t, turn));
-        turn = interleaver::next_place(mode, turn);
+        tones[t] = gray::tone_of(symbols[t]);
         t += 1;
     }
 }

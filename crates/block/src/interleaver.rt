@@ -2,61 +2,99 @@
 use super::MISSING;
 use super::scrambler;
 ghost use mathlib.Core.Path.{_≡_};
-ghost use Prim.Native.Nat.{_+_, _<_, _≤_, _%_};
+ghost use mathlib.Core.Bool.{cond};
+ghost use Prim.Native.Nat.{_+_, _*_, _<_, _≤_};
+ghost use lib.Dec.{eqb};
 ghost use lib.ListN.{length};
 ghost use Rattle.walsh.specs.Lists.{tab};
 ghost use Rattle.block.specs.Chain.{symbolAt};
-ghost use Rattle.block.specs.Decoding.{countOf, countIn};
+ghost use Rattle.block.specs.Tables.{keysAt, placeWeight, partSymbols, countBy, tableCount};
 
-// The place after a place of a symbol's mode bits, and from the last to the first.
-pub fn next_place(mode: usize, place: usize) -> usize
-    requires { ⌜ (place < mode) × (mode ≤ 8) ⌝ }
-    ensures { λ r. ⌜ r ≡ (place + 1) % mode ⌝ }
+// The weight of the next place, and from the last to the first.
+fn next_weight(last: u16, weight: u16) -> u16
+    requires { ⌜ weight ≤ 128 ⌝ }
+    ensures { λ r. ⌜ r ≡ cond (eqb weight last) 1 (2 * weight) ⌝ }
 {
-    if place + 1 < mode { place + 1 } else { 0 }
+    if weight == last { 1 } else { 2 * weight }
 }
 
-// Symbol t of the codes; turn is t mod mode.
-pub fn symbol(mode: usize, codes: &[u8], t: usize, turn: usize) -> u16
-    requires { ⌜ (mode ≤ 8) × (length (now codes) ≡ mode) × (t < 64) × (turn < mode) × (turn ≡ t % mode) ⌝ }
-    ensures { λ r. ⌜ r ≡ symbolAt mode (now (codes .entry)) t ⌝ }
+// The weights of the places, round and round: that of character q in symbol t is entry q + t.
+pub fn weights(mode: usize) -> [u16; 72]
+    requires { ⌜ (1 ≤ mode) × (mode ≤ 8) ⌝ }
+    ensures { λ r. ⌜ r ≡ tab (placeWeight mode) 72 ⌝ }
 {
-    let mut symbol: u16 = 0;
-    let mut place = turn;
+    let last = 1u16 << (mode - 1);
+    let mut weights = [0u16; 72];
+    let mut weight: u16 = 1;
+    let mut i: usize = 0;
+    while i < 72 {
+        weights[i] = weight;
+        weight = next_weight(last, weight);
+        i += 1;
+    }
+    weights
+}
+
+// A symbol with the weight added, if the bit is 1.
+fn added(symbol: u16, bit: bool, weight: u16) -> u16
+    requires { ⌜ (symbol ≤ 1024) × (weight ≤ 128) ⌝ }
+    ensures { λ r. ⌜ r ≡ symbol + cond bit weight 0 ⌝ }
+{
+    if bit { symbol + weight } else { symbol }
+}
+
+// Adds to each symbol what character q sends at its place.
+fn add_character(q: usize, codes: &[u8], keys: &[u16; 64], weights: &[u16; 72], symbols: &mut [u16])
+    requires codes { ⌜ (q < length (now codes)) × (length (now codes) ≤ 8) ⌝ }
+    requires tables { ⌜ (now keys ≡ tab keysAt 64) × (now weights ≡ tab (placeWeight (length (now codes))) 72) ⌝ }
+    requires sums { ⌜ now symbols ≡ partSymbols (now codes) q ⌝ }
+    ensures { λ _. ⌜ now (symbols .exit) ≡ partSymbols (now (codes .entry)) (q + 1) ⌝ }
+{
+    let code = codes[q];
+    let mut t: usize = 0;
+    while t < 64 {
+        let bit = scrambler::code_bit(code, t) != scrambler::key_bit(keys[t], q);
+        symbols[t] = added(symbols[t], bit, weights[q + t]);
+        t += 1;
+    }
+}
+
+// The symbols of the codes.
+pub fn symbols(mode: usize, codes: &[u8]) -> [u16; 64]
+    requires { ⌜ (1 ≤ mode) × (mode ≤ 8) × (length (now codes) ≡ mode) ⌝ }
+    ensures { λ r. ⌜ r ≡ tab (symbolAt mode (now (codes .entry))) 64 ⌝ }
+{
+    let keys = scrambler::keys();
+    let weights = weights(mode);
+    let mut symbols = [0u16; 64];
     let mut q: usize = 0;
     while q < mode {
-        if scrambler::sent_bit(q, codes[q], t) {
-            symbol += 1u16 << place;
-        }
-        place = next_place(mode, place);
+        add_character(q, codes, &keys, &weights, &mut symbols);
         q += 1;
     }
-    symbol
+    symbols
 }
 
-// What a symbol counts for a character whose bit is at place and was XORed with key.
-pub fn count(key: bool, place: usize, symbol: u16) -> i8
-    requires { ⌜ place < 8 ⌝ }
-    ensures { λ r. ⌜ r ≡ countOf key place symbol ⌝ }
+// What a symbol counts for a character whose bit has this weight in it and was XORed with key.
+fn count(key: bool, weight: u16, symbol: u16) -> i8
+    ensures { λ r. ⌜ r ≡ countBy key weight symbol ⌝ }
 {
     if symbol == MISSING {
         return 0;
     }
-    let bit = (symbol >> place) % 2 == 1;
+    let bit = symbol & weight != 0;
     if bit != key { -1 } else { 1 }
 }
 
 // What the 64 symbols count for character q.
-pub fn counts(mode: usize, q: usize, symbols: &[u16; 64]) -> [i8; 64]
-    requires { ⌜ (mode ≤ 8) × (q < mode) ⌝ }
-    ensures { λ r. ⌜ r ≡ tab (countIn mode (now (symbols .entry)) q) 64 ⌝ }
+pub fn counts(q: usize, keys: &[u16; 64], weights: &[u16; 72], symbols: &[u16; 64]) -> [i8; 64]
+    requires { ⌜ q < 8 ⌝ }
+    ensures { λ r. ⌜ r ≡ tab (tableCount (now (keys .entry)) (now (weights .entry)) (now (symbols .entry)) q) 64 ⌝ }
 {
     let mut counts = [0i8; 64];
-    let mut place = q;
     let mut t: usize = 0;
     while t < 64 {
-        counts[t] = count(scrambler::key_bit(q, t), place, symbols[t]);
-        place = next_place(mode, place);
+        counts[t] = count(scrambler::key_bit(keys[t], q), weights[q + t], symbols[t]);
         t += 1;
     }
     counts

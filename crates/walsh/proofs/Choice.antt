@@ -7,14 +7,14 @@ use native.Mathlib.Nat.{eq-or-lt-of-le, le-of-suc-le-suc}
 use native.Mathlib.Omega.{arith}
 use lib.Dec.{ltb, ltb→lt, nltb→le}
 use lib.IntN.{ℤ, natAbs}
-use borrow.Author.Tests.{lt-ltb, le-ltb, eq-eqb, ne-eqb}
+use borrow.Author.Tests.{eq-eqb, ne-eqb}
 use Rattle.walsh.specs.Decision.{better, best, rival, leadOf, negative, codeOf, decisionFor, decision}
 use Rattle.walsh.specs.Laws.{Chosen, Decision}
 use Rattle.walsh.specs.declared.Character.{Character}
 use Rattle.walsh.proofs.Integers.{cond-cases}
 
 -- what holds at each place below n, and at n, holds at each below suc n
-below-suc : (P : ℕ → Type 0) (n : ℕ) → ((k : ℕ) → k < n → P k) → P n → (k : ℕ) → k < suc n → P k
+pub below-suc : (P : ℕ → Type 0) (n : ℕ) → ((k : ℕ) → k < n → P k) → P n → (k : ℕ) → k < suc n → P k
 below-suc P n h p k l = ⊎-elim (λ e. subst P (sym e) p) (h k) (eq-or-lt-of-le (le-of-suc-le-suc l))
 
 pub same-character : {c c′ l l′ : ℕ} → c ≡ c′ → l ≡ l′ → _≡_ {A = Character} (record { code = c; lead = l }) (record { code = c′; lead = l′ })
@@ -22,14 +22,6 @@ same-character p q = λ i. record { code = p i; lead = q i }
 
 module _ (r : ℕ → ℤ) where
   -- ---- the better of two words, by which has the greater magnitude
-
-  pub better-new : (b n : ℕ) → natAbs (r b) < natAbs (r n) → better r b n ≡ n
-  unfolding better
-  better-new b n h = simp (lt-ltb _ _ h)
-
-  pub better-old : (b n : ℕ) → natAbs (r n) ≤ natAbs (r b) → better r b n ≡ b
-  unfolding better
-  better-old b n h = simp (le-ltb _ _ h)
 
   better-cases : (P : ℕ → Type 0) (b n : ℕ) → (natAbs (r b) < natAbs (r n) → P n) → (natAbs (r n) ≤ natAbs (r b) → P b) → P (better r b n)
   unfolding better
@@ -82,7 +74,7 @@ module _ (r : ℕ → ℤ) where
   -- ---- the largest magnitude among the others
 
   module _ (w : ℕ) where
-    pub rival-own : rival r w (suc w) ≡ rival r w w
+    rival-own : rival r w (suc w) ≡ rival r w w
     unfolding rival
     rival-own = simp (eq-eqb w w refl)
 
@@ -97,7 +89,7 @@ module _ (r : ℕ → ℤ) where
         by (yes e) = omega (arith, ap (λ k. rival r w (suc k)) e, ap (rival r w) e, rival-own)
         by (no ne) = omega (arith, rival-other n ne)
 
-    pub rival-above : (n k : ℕ) → k < n → k ≢ w → natAbs (r k) ≤ rival r w n
+    rival-above : (n k : ℕ) → k < n → k ≢ w → natAbs (r k) ≤ rival r w n
     rival-above zero k l ne = absurd (omega arith)
     rival-above (suc n) k l ne =
         below-suc (λ j. j ≢ w → natAbs (r j) ≤ rival r w (suc n)) n

@@ -9,4 +9,4 @@ pub mod Drift
 pub mod Locals
 pub mod Tables
 pub mod Sizes
-pub mod Scans
+pub mod Passes

@@ -2,10 +2,12 @@
 ghost use mathlib.Core.Path.{_≡_};
 ghost use Prim.Native.Nat.{_<_, _≤_};
 ghost use lib.IntN.{natAbs};
-ghost use Rattle.walsh.specs.Lists.{at};
+ghost use lib.ListN.{getD};
+ghost use Rattle.walsh.specs.Lists.{tab, at};
 ghost use Rattle.walsh.specs.Words.{minus, corr, correlationsOf};
 ghost use Rattle.walsh.specs.Transform.{stepOf, Within};
 ghost use Rattle.walsh.specs.Decision.{negative, codeOf, decision};
+ghost use Rattle.walsh.specs.Passes.{largest, firstAt};
 
 pub mod laws;
 
@@ -78,11 +80,54 @@ fn step(x: [i32; 64]) -> [i32; 64]
     y
 }
 
-fn magnitude(v: i32) -> u32
+fn magnitude(v: i32) -> u16
     requires { ⌜ natAbs v ≤ 8192 ⌝ }
     ensures { λ r. ⌜ r ≡ natAbs v ⌝ }
 {
-    if v < 0 { (-v) as u32 } else { v as u32 }
+    if v < 0 { (-v) as u16 } else { v as u16 }
+}
+
+// The magnitudes of the correlations. They are at most 8,192, so 16 bits hold each.
+fn magnitudes(correlations: [i32; 64]) -> [u16; 64]
+    requires { ⌜ Within 8192 correlations ⌝ }
+    ensures { λ r. ⌜ r ≡ tab (λ i. natAbs (at correlations i)) 64 ⌝ }
+{
+    let mut numbers = [0u16; 64];
+    let mut i: usize = 0;
+    while i < 64 {
+        numbers[i] = magnitude(correlations[i]);
+        i += 1;
+    }
+    numbers
+}
+
+// The largest of the numbers.
+fn largest(numbers: &[u16; 64]) -> u16
+    ensures { λ r. ⌜ r ≡ largest (λ i. getD (now (numbers .entry)) i 0) 64 ⌝ }
+{
+    let mut most: u16 = 0;
+    let mut i: usize = 0;
+    while i < 64 {
+        if most < numbers[i] {
+            most = numbers[i];
+        }
+        i += 1;
+    }
+    most
+}
+
+// The lowest place of a number among the first 63, else 63.
+fn place_of(number: u16, numbers: &[u16; 64]) -> usize
+    ensures { λ r. ⌜ r ≡ firstAt (λ i. getD (now (numbers .entry)) i 0) number 63 ⌝ }
+{
+    let mut place: usize = 0;
+    while place < 63 {
+        if numbers[place] == number {
+            return place;
+        }
+        place += 1;
+    }
+    place
 }
 
 fn code_of(word: usize, correlation: i32) -> u8
@@ -96,27 +141,19 @@ fn code_of(word: usize, correlation: i32) -> u8
     }
 }
 
+// The passes are separate, since the compiler makes vector code of such short loops and not of one
+// that keeps word and rival together.
 fn lead_finder(correlations: [i32; 64]) -> Character
     requires { ⌜ Within 8192 correlations ⌝ }
     ensures { λ r. ⌜ r ≡ decision (at correlations) ⌝ }
 {
-    let mut word: usize = 0;
-    let mut greatest = magnitude(correlations[0]);
-    let mut rival: u32 = 0;
-    let mut i: usize = 1;
-    while i < 64 {
-        let m = magnitude(correlations[i]);
-        if greatest < m {
-            rival = greatest;
-            greatest = m;
-            word = i;
-        } else if rival < m {
-            rival = m;
-        }
-        i += 1;
-    }
+    let mut numbers = magnitudes(correlations);
+    let greatest = largest(&numbers);
+    let word = place_of(greatest, &numbers);
+    numbers[word] = 0;
+    let rival = largest(&numbers);
     Character {
         code: code_of(word, correlations[word]),
-        lead: greatest - rival,
+        lead: (greatest - rival) as u32,
     }
 }

@@ -90,7 +90,7 @@ characters-requires c κs =
     let f = c .before in
     let p = passed (f .before .before) in
     let m = mode-range _ (p .mode) in
-    (m .1, byte-tones _ _ (m .1) (in-range-tones _ _ (p .count) (rw (range f) at (c .if5 .left))))
+    (m .0, m .1, byte-tones _ _ (m .1) (in-range-tones _ _ (p .count) (rw (range f) at (c .if5 .left))))
 
 judge-requires : tie.Need-judge-requires
 judge-requires c κs = mode-range _ (passed (c .before .before .before .before) .mode) .1

@@ -12,18 +12,25 @@ use Rattle.block.specs.Lists.{filled}
 use Rattle.block.specs.Decoding.{countIn, none, characterAt, charactersOf}
 use Rattle.block.proofs.Lists.{filled-start, filled-set}
 use Rattle.block.proofs.Decisions.{table-decision}
+use Rattle.block.proofs.Keys.{table-counts}
 use Rattle.block.proofs.decode.characters.Statement.{statement}
 use Rattle.block.proofs.decode.characters.Tie as tie
 
 abbrev Inv-loop : tie.InvT-loop
-Inv-loop mode tones symbols characters₀ q₀ characters q =
+Inv-loop mode tones symbols keys weights characters₀ q₀ characters q =
     (q ≤ mode) × (characters ≡ filled (characterAt mode tones) q (replicate 8 none))
 
 abbrev μ-loop : tie.MeasureT-loop
-μ-loop mode tones symbols characters₀ q₀ characters q = mode - q
+μ-loop mode tones symbols keys weights characters₀ q₀ characters q = mode - q
 
 heard-symbols-requires : tie.Need-heard-symbols-requires Inv-loop μ-loop
 heard-symbols-requires c κs = search needs
+
+keys-requires : tie.Need-keys-requires Inv-loop μ-loop
+keys-requires c κs = search needs
+
+weights-requires : tie.Need-weights-requires Inv-loop μ-loop
+weights-requires c κs = search needs
 
 loop-holds : tie.Need-loop-holds Inv-loop μ-loop
 loop-holds c = (search needs, filled-start _ _)
@@ -49,20 +56,23 @@ loop-less c = search needs
 loop-again : tie.Need-loop-again Inv-loop μ-loop
 unfolding characterAt
 loop-again c =
-    let l = c .before .before .before .before in
-    let s = l .before .before .before in
+    let l = c .before .before .before .before .before .before in
+    let s = l .before .before .before .before .before in
+    let symbols = l .before .before .before .heard-symbols in
     let here : c .decide .result ≡ characterAt (s .args .mode) (s .args .tones .now) (l .loop .q) =
     c .decide .ensures
-    ∙ ap (λ (x : List ℤ). decision (corr (at x))) (c .before .counts .ensures)
-    ∙ table-decision (countIn (s .args .mode) (l .before .heard-symbols .result) (l .loop .q))
-    ∙ ap (λ (x : List ℕ). decision (corr (countIn (s .args .mode) x (l .loop .q)))) (l .before .heard-symbols .ensures) in
+    ∙ ap (λ (x : List ℤ). decision (corr (at x)))
+    (c .before .counts .ensures
+    ∙ table-counts (s .args .mode) (l .loop .q) _ _ _ (l .before .before .keys .ensures) (l .before .weights .ensures) (omega arith))
+    ∙ table-decision (countIn (s .args .mode) (symbols .result) (l .loop .q))
+    ∙ ap (λ (x : List ℕ). decision (corr (countIn (s .args .mode) x (l .loop .q)))) (symbols .ensures) in
     (search needs, filled-set none _ (l .loop .q) _ _ _ (omega arith) (l .loop .inv .1) here)
 
 returns : tie.Need-returns Inv-loop μ-loop
 unfolding charactersOf
 returns c =
     let l = c .before in
-    let e : l .loop .q ≡ l .before .before .before .args .mode = omega arith in
+    let e : l .loop .q ≡ l .before .before .before .before .before .args .mode = omega arith in
     rw e at (l .loop .inv .1)
 
 pub characters-spec : {M : Type 1} → statement M
@@ -72,6 +82,8 @@ characters-spec =
     Inv-loop
     μ-loop
     heard-symbols-requires
+    keys-requires
+    weights-requires
     loop-holds
     counts-requires
     decide-requires

@@ -1,29 +1,34 @@
-use mathlib.Core.Path.{_≡_, refl, sym, _∙_, ap}
-use Prim.Native.Nat.{_+_, _-_, _<_, _≤_, _%_}
-use native.Mathlib.Nat.{zero-mod}
+use mathlib.Core.Path.{_≡_, refl, _∙_, ap}
+use mathlib.Core.List.{List}
+use Prim.Native.Nat.{ℕ, _-_, _<_, _≤_}
 use native.Mathlib.Omega.{arith}
 use lib.ListN.{length, length-set}
 use borrow.Author.Needs.{needs}
-use Rattle.block.specs.Lists.{filled}
-use Rattle.block.specs.Chain.{gray, toneAt}
+use Rattle.walsh.proofs.Tables.{tab-at}
+use Rattle.block.specs.Lists.{num, filled}
+use Rattle.block.specs.Chain.{symbolAt, gray, toneAt}
 use Rattle.block.proofs.Lists.{filled-start, filled-set}
-use Rattle.block.proofs.Places.{place-inside, place-next}
 use Rattle.block.proofs.encode.put_tones.Statement.{statement}
 use Rattle.block.proofs.encode.put_tones.Tie as tie
 
 abbrev Inv-loop : tie.InvT-loop
-Inv-loop mode codes tones₀ turn₀ t₀ tones turn t =
-    (t ≤ 64) × (turn < mode) × (turn ≡ t % mode) × (length tones ≡ length tones₀) × (tones ≡ filled (toneAt mode codes) t tones₀)
+Inv-loop mode codes tones₀ symbols t₀ tones t =
+    (t ≤ 64) × (length tones ≡ length tones₀) × (tones ≡ filled (toneAt mode codes) t tones₀)
 
 abbrev μ-loop : tie.MeasureT-loop
-μ-loop mode codes tones₀ turn₀ t₀ tones turn t = 64 - t
+μ-loop mode codes tones₀ symbols t₀ tones t = 64 - t
+
+symbols-requires : tie.Need-symbols-requires Inv-loop μ-loop
+symbols-requires c κs = search needs
 
 loop-holds : tie.Need-loop-holds Inv-loop μ-loop
-loop-holds c =
-    (search needs, search needs, sym (zero-mod (c .before .before .args .mode)), refl, filled-start _ _)
+loop-holds c = (search needs, refl, filled-start _ _)
 
-symbol-requires : tie.Need-symbol-requires Inv-loop μ-loop
-symbol-requires c κs = search needs
+mul-tone-of : tie.Need-mul-tone-of Inv-loop μ-loop
+mul-tone-of c = search needs
+
+array-read-tone-of : tie.Need-array-read-tone-of Inv-loop μ-loop
+array-read-tone-of c = search needs
 
 tone-of-requires : tie.Need-tone-of-requires Inv-loop μ-loop
 tone-of-requires c κs = tt
@@ -34,9 +39,6 @@ mul-tones c = search needs
 slice-write-tones : tie.Need-slice-write-tones Inv-loop μ-loop
 slice-write-tones c = search needs
 
-next-place-requires : tie.Need-next-place-requires Inv-loop μ-loop
-next-place-requires c κs = search needs
-
 add-t : tie.Need-add-t Inv-loop μ-loop
 add-t c = search needs
 
@@ -46,26 +48,25 @@ loop-less c = search needs
 loop-again : tie.Need-loop-again Inv-loop μ-loop
 unfolding toneAt
 loop-again c =
-    let l = c .before .before .before .before in
-    let a = l .before .before .before .args in
-    let next : c .next-place .result ≡ (l .loop .t + 1) % a .mode =
-    place-next (a .mode) (l .loop .t) (l .loop .turn) (l .loop .inv .2) _ _ refl (c .next-place .ensures) in (
+    let l = c .before .before .loop in
+    let s = c .before .before .before .before .before .before in
+    let here : l .t < 64 = c .before .loop-test .taken in (
       search needs,
-      place-inside (a .mode) _ _ next (omega arith),
-      next,
-      length-set (l .loop .tones) (l .loop .t) _ ∙ l .loop .inv .3,
-      filled-set 0 (toneAt (a .mode) (a .codes .now)) (l .loop .t) (a .tones .now) (l .loop .tones) _ (omega arith) (l .loop .inv .4)
-          (c .before .tone-of .ensures ∙ ap gray (c .before .before .symbol .ensures)),
+      length-set (l .tones) (l .t) _ ∙ l .inv .1,
+      filled-set 0 (toneAt (s .args .mode) (s .args .codes .now)) (l .t) (s .args .tones .now) (l .tones) _ (omega arith) (l .inv .2)
+          (c .tone-of .ensures
+          ∙ ap (λ (x : List ℕ). gray (num x (l .t))) (c .before .before .before .symbols .ensures)
+          ∙ ap gray (tab-at (symbolAt (s .args .mode) (s .args .codes .now)) 0 64 (l .t) here)),
     )
 
 same-length : tie.Need-same-length Inv-loop μ-loop
-same-length c = c .before .loop .inv .3
+same-length c = c .before .loop .inv .1
 
 returns : tie.Need-returns Inv-loop μ-loop
 returns c =
     let l = c .before .loop in
     let done : l .t ≡ 64 = omega arith in
-    rw done at (l .inv .4)
+    rw done at (l .inv .2)
 
 pub put-tones-spec : {M : Type 1} → statement M
 put-tones-spec =
@@ -73,12 +74,13 @@ put-tones-spec =
     (tie.spec
     Inv-loop
     μ-loop
+    symbols-requires
     loop-holds
-    symbol-requires
+    mul-tone-of
+    array-read-tone-of
     tone-of-requires
     mul-tones
     slice-write-tones
-    next-place-requires
     add-t
     loop-less
     loop-again

@@ -1,11 +1,11 @@
-use mathlib.Core.Path.{_≡_, sym, _∙_, ap}
+use mathlib.Core.Path.{_≡_, refl, sym, _∙_, ap}
 use mathlib.Core.Bool.{Bool, not, Bool·beq}
+use lib.Bits.{bitAnd}
+use lib.Dec.{eqb}
 use lib.IntN.{pos}
 use borrow.Author.Tests.{eq-eqb, ne-eqb}
-use borrow.Author.Needs.{needs}
 use Rattle.walsh.specs.Words.{signed, turned}
-use Rattle.block.specs.Chain.{bit}
-use Rattle.block.specs.Decoding.{countOf}
+use Rattle.block.specs.Tables.{countBy}
 use Rattle.block.proofs.Xors.{turned-differs}
 use Rattle.block.proofs.interleaver.count.Statement.{statement}
 use Rattle.block.proofs.interleaver.count.Tie as tie
@@ -14,26 +14,20 @@ counts-differ : (key bit differ : Bool) → not (Bool·beq bit key) ≡ differ �
 counts-differ key bit differ e = ap (λ (d : Bool). signed d (pos 1)) (sym (turned-differs key bit ∙ e))
 
 returns : tie.Need-returns
-unfolding countOf
-returns c = rw (eq-eqb _ _ (c .if1 .taken))
-
-cast-bit : tie.Need-cast-bit
-cast-bit c = search needs
-
-shr-bit : tie.Need-shr-bit
-shr-bit c = search needs
+unfolding countBy
+returns c = rw (eq-eqb _ _ (c .if1 .taken)) refl
 
 returns-2 : tie.Need-returns-2
-unfolding countOf
+unfolding countBy
 returns-2 c =
     let a = c .before .before .args in
-    rw (ne-eqb _ _ (c .before .if1 .left)) (counts-differ (a .key) (bit (a .symbol) (a .place)) _ (c .if2 .taken))
+    rw (ne-eqb _ _ (c .before .if1 .left)) (counts-differ (a .key) (not (eqb (bitAnd (a .symbol) (a .weight)) 0)) _ (c .if2 .taken))
 
 returns-3 : tie.Need-returns-3
-unfolding countOf
+unfolding countBy
 returns-3 c =
     let a = c .before .before .args in
-    rw (ne-eqb _ _ (c .before .if1 .left)) (counts-differ (a .key) (bit (a .symbol) (a .place)) _ (c .if2 .left))
+    rw (ne-eqb _ _ (c .before .if1 .left)) (counts-differ (a .key) (not (eqb (bitAnd (a .symbol) (a .weight)) 0)) _ (c .if2 .left))
 
 pub count-spec : {M : Type 1} → statement M
-count-spec = tie.close (tie.spec returns cast-bit shr-bit returns-2 returns-3)
+count-spec = tie.close (tie.spec returns returns-2 returns-3)

@@ -1,0 +1,66 @@
+//! Calls the library so many times on one input, for a tool that counts instructions: `count encode|decode|message MODE TIMES`.
+
+use olivia_tests::library;
+use std::hint::black_box;
+use std::process::ExitCode;
+
+const LEAST_LEAD: u32 = 16;
+const LONGEST_MESSAGE: usize = 1024;
+
+fn main() -> ExitCode {
+    let words: Vec<String> = std::env::args().skip(1).collect();
+    let number = |place: usize| words.get(place).and_then(|word| word.parse().ok());
+    let (Some(mode @ 1..=8), Some(times)) = (number(1), number(2)) else {
+        return usage();
+    };
+    match words[0].as_str() {
+        "encode" => encode(mode, times),
+        "decode" => decode(mode, times),
+        "message" => message(mode, times),
+        _ => return usage(),
+    }
+    ExitCode::SUCCESS
+}
+
+fn usage() -> ExitCode {
+    eprintln!("usage: count encode|decode|message MODE TIMES");
+    ExitCode::FAILURE
+}
+
+/// Codes from 1 to 127, so that they do as a block and as a message.
+fn letters(count: usize) -> Vec<u8> {
+    (0..count)
+        .map(|place| 1 + (place * 41 % 127) as u8)
+        .collect()
+}
+
+fn encode(mode: u32, times: u32) {
+    let codes = letters(mode as usize);
+    let mut tones = [0; 64];
+    for _ in 0..times {
+        let answer = library::encode_block(mode, black_box(&codes), &mut tones);
+        assert_eq!(black_box(answer).number, 0);
+    }
+}
+
+fn decode(mode: u32, times: u32) {
+    let mut tones = [0; 64];
+    let sent = library::encode_block(mode, &letters(mode as usize), &mut tones);
+    assert_eq!(sent.number, 0);
+    let mut codes = [0; 8];
+    for _ in 0..times {
+        let block = library::decode_block(mode, LEAST_LEAD, black_box(&tones), &mut codes);
+        assert_eq!(black_box(block).answer.number, 0);
+    }
+}
+
+fn message(mode: u32, times: u32) {
+    let mut tones = vec![0; 64 * LONGEST_MESSAGE.div_ceil(mode as usize)];
+    let sent = library::encode_message(mode, &letters(LONGEST_MESSAGE), &mut tones);
+    assert_eq!(sent.number, 0);
+    let mut text = [0; LONGEST_MESSAGE + 8];
+    for _ in 0..times {
+        let answer = library::decode_message(mode, LEAST_LEAD, black_box(&tones), &mut text);
+        assert_eq!(black_box(answer).number, 0);
+    }
+}

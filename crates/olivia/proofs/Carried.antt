@@ -1,0 +1,129 @@
+-- Every count and every place that an entry answers with is below 2^32.
+use mathlib.Core.Path.{_≡_, refl}
+use mathlib.Core.Bool.{Bool, true, false, cond, not}
+use mathlib.Core.List.{List}
+use Prim.Native.Nat.{ℕ, _+_, _-_, _*_, _/_, _^_, _<_, _≤_}
+use native.Mathlib.Nat.{le-mul-of-pos-right}
+use native.Mathlib.Omega.{arith}
+use borrow.Author.Tests.{ltb-true, ltb-false, not-false}
+use lib.Dec.{ltb, leb, eqb}
+use lib.ListN.{length, length-map}
+use Rattle.refusal.specs.declared.Refusal.{Refusal}
+use Rattle.refusal.specs.Refused.{refusedAt}
+use Rattle.refusal.specs.Checks.{isMode, isLead}
+use Rattle.refusal.proofs.Limits.{mode-range}
+use Rattle.walsh.specs.declared.Character.{Character}
+use Rattle.block.specs.declared.Encoded.{Encoded}
+use Rattle.block.specs.declared.Decoded.{Decoded}
+use Rattle.block.specs.declared.BlockDecoded.{BlockDecoded}
+use Rattle.block.specs.Encoding.{firstBadCode, encodeBlock}
+use Rattle.block.specs.Decoding.{charactersOf, firstUnclear, judgement, firstBadTone, refused, decodeBlock}
+use Rattle.message.specs.Blocks.{longest, blockCount, isWhole}
+use Rattle.message.specs.Encoding.{firstBadTextCode, encodeMessage}
+use Rattle.message.specs.Decoding.{codesOf, textEnd, firstZero, judgedAt, textJudgement, heardJudgement, messageCharacters, decodeMessage}
+use Rattle.message.proofs.Counts.{count-small, whole-blocks, whole-few}
+use Rattle.message.proofs.TextEnds.{end-within}
+use Rattle.message.proofs.HeardBlocks.{message-count}
+use Rattle.band.specs.Limits.{fault}
+use Rattle.band.specs.Frequencies.{hertzOf, frequencyOf}
+use Rattle.band.specs.declared.Tuned.the-variants as tuned
+use Rattle.olivia.specs.Told.{carriedBy, heardCarries}
+
+-- what holds of each of two answers holds of the one that a test chooses
+either-way : {A : Type 0} (P : A → Type 0) (t : Bool) (x y : A) → (t ≡ true → P x) → (t ≡ false → P y) → P (cond t x y)
+either-way P true x y f g = f refl
+either-way P false x y f g = g refl
+
+abbrev SmallSent : Encoded → Type 0
+SmallSent answer = carriedBy answer < 2 ^ 32
+
+abbrev SmallHeard : Decoded → Type 0
+SmallHeard answer = heardCarries answer < 2 ^ 32
+
+abbrev SmallHeardBlock : BlockDecoded → Type 0
+SmallHeardBlock d = SmallHeard (d .answer)
+
+-- ---- a block
+
+pub block-sent-small : (b : ℕ) (codes : List ℕ) (room : ℕ) → carriedBy (encodeBlock b codes room) < 2 ^ 32
+unfolding encodeBlock
+block-sent-small b codes room =
+    either-way SmallSent (not (isMode b)) _ _ (λ _. omega arith) (λ mode.
+    either-way SmallSent (not (eqb (length codes) b)) _ _ (λ _. omega arith) (λ _.
+    either-way SmallSent (ltb room 64) _ _ (λ _. omega arith) (λ _.
+    either-way SmallSent (ltb (firstBadCode codes) b) _ _
+    (λ bad. omega (arith, ltb-true (firstBadCode codes) b bad, mode-range b (not-false _ mode)))
+    (λ _. omega arith))))
+
+judged-small : (b m : ℕ) (characters : List Character) → b ≤ 8 → heardCarries (judgement b m characters) < 2 ^ 32
+unfolding judgement
+judged-small b m characters h =
+    either-way SmallHeard (ltb (firstUnclear b m characters) b) _ _
+    (λ unclear. omega (arith, ltb-true (firstUnclear b m characters) b unclear))
+    (λ _. omega arith)
+
+pub block-heard-small : (b m : ℕ) (tones : List ℕ) (room : ℕ) → heardCarries (decodeBlock b m tones room .answer) < 2 ^ 32
+unfolding decodeBlock refused
+block-heard-small b m tones room =
+    either-way SmallHeardBlock (not (isMode b)) _ _ (λ _. omega arith) (λ mode.
+    either-way SmallHeardBlock (not (isLead m)) _ _ (λ _. omega arith) (λ _.
+    either-way SmallHeardBlock (not (eqb (length tones) 64)) _ _ (λ _. omega arith) (λ _.
+    either-way SmallHeardBlock (ltb room b) _ _ (λ _. omega arith) (λ _.
+    either-way SmallHeardBlock (ltb (firstBadTone (2 ^ b) tones) 64) _ _
+    (λ bad. omega (arith, ltb-true (firstBadTone (2 ^ b) tones) 64 bad))
+    (λ _. judged-small b m (charactersOf b tones) (mode-range b (not-false _ mode) .1))))))
+
+-- ---- a message
+
+pub message-sent-small : (b : ℕ) (text : List ℕ) (room : ℕ) → carriedBy (encodeMessage longest b text room) < 2 ^ 32
+unfolding encodeMessage
+message-sent-small b text room =
+    either-way SmallSent (not (isMode b)) _ _ (λ _. omega arith) (λ mode.
+    either-way SmallSent (ltb longest (length text)) _ _ (λ _. omega arith) (λ count.
+    let short : length text ≤ 1024 = ltb-false longest (length text) count in
+    either-way SmallSent (ltb room (64 * blockCount b (length text))) _ _ (λ _. omega arith) (λ _.
+    either-way SmallSent (ltb (firstBadTextCode text) (length text)) _ _
+    (λ bad. omega (arith, ltb-true (firstBadTextCode text) (length text) bad))
+    (λ _. omega (arith, count-small b (length text), mode-range b (not-false _ mode))))))
+
+-- of codes fewer than those of the longest message and one block
+ended-small : (b : ℕ) (codes : List ℕ) (n : ℕ) → n ≤ length codes → length codes < longest + 8 → heardCarries (judgedAt longest b codes n) < 2 ^ 32
+unfolding judgedAt
+ended-small b codes n within few =
+    either-way SmallHeard (ltb (firstZero codes n) n) _ _ (λ zero. omega (arith, ltb-true (firstZero codes n) n zero)) (λ _.
+    either-way SmallHeard (leb b (length codes - n)) _ _ (λ _. omega arith) (λ _.
+    either-way SmallHeard (ltb longest n) _ _ (λ _. omega arith) (λ _. omega arith)))
+
+characters-small : (b m : ℕ) (characters : List Character) → length characters < longest + 8 → heardCarries (heardJudgement longest b m characters) < 2 ^ 32
+unfolding heardJudgement textJudgement codesOf
+characters-small b m characters few =
+    let n = length characters in
+    let codes = codesOf characters in
+    either-way SmallHeard (ltb (firstUnclear n m characters) n) _ _ (λ unclear. omega (arith, ltb-true (firstUnclear n m characters) n unclear)) (λ _.
+    ended-small b codes (textEnd codes (length codes)) (end-within codes (length codes)) (rw length-map few))
+
+pub message-heard-small : (b m : ℕ) (tones : List ℕ) (room : ℕ) → heardCarries (decodeMessage longest b m tones room) < 2 ^ 32
+unfolding decodeMessage
+message-heard-small b m tones room =
+    either-way SmallHeard (not (isMode b)) _ _ (λ _. omega arith) (λ mode.
+    let in-range : (1 ≤ b) × (b ≤ 8) = mode-range b (not-false _ mode) in
+    either-way SmallHeard (not (isLead m)) _ _ (λ _. omega arith) (λ _.
+    either-way SmallHeard (not (isWhole longest b (length tones))) _ _ (λ _. omega arith) (λ count.
+    let whole = not-false _ count in
+    let few : length tones / 64 * b < longest + b = whole-few longest b (length tones) whole (in-range .0) in
+    either-way SmallHeard (ltb room (length tones / 64 * b)) _ _ (λ _. omega arith) (λ _.
+    either-way SmallHeard (ltb (firstBadTone (2 ^ b) tones) (length tones)) _ _
+    (λ bad.
+    let blocks = length tones / 64 in
+    omega (arith, ltb-true (firstBadTone (2 ^ b) tones) (length tones) bad, whole-blocks longest b (length tones) whole, le-mul-of-pos-right {m = b} blocks (in-range .0)))
+    (λ _. characters-small b m (messageCharacters b tones) (omega (arith, message-count b tones)))))))
+
+-- ---- a frequency
+
+pub frequency-refused-at-0 : (b w c n : ℕ) (r : Refusal) → frequencyOf b w c n ≡ tuned.Refused r → r .place ≡ 0
+unfolding frequencyOf
+frequency-refused-at-0 b w c n r e = by (eqb (fault b w c n) 0) e
+  where
+    by : (t : Bool) → cond t (tuned.Hertz (hertzOf b w c n)) (tuned.Refused (refusedAt (fault b w c n) 0)) ≡ tuned.Refused r → r .place ≡ 0
+    by true e = let z : _≡_ {A = ℕ} 0 1 = cc in absurd (omega arith)
+    by false e = cc

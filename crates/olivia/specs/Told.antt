@@ -1,0 +1,70 @@
+-- What C is told of each answer (include/olivia.h).
+use mathlib.Core.List.{List}
+use Prim.Native.Nat.{ℕ, min}
+use Rattle.refusal.specs.declared.Refusal.{Refusal}
+use Rattle.walsh.specs.Lists.{tab}
+use Rattle.walsh.specs.declared.Character.{Character}
+use Rattle.block.specs.Decoding.{leadIn}
+use Rattle.block.specs.declared.Encoded.{Encoded}
+use Rattle.block.specs.declared.Encoded.the-variants as encoded
+use Rattle.block.specs.declared.Decoded.{Decoded}
+use Rattle.block.specs.declared.Decoded.the-variants as decoded
+use Rattle.block.specs.declared.BlockDecoded.{BlockDecoded}
+use Rattle.block.specs.declared.trial.Trial.{Trial}
+use Rattle.band.specs.Exact.{scaled}
+use Rattle.band.specs.declared.Tuned.{Tuned}
+use Rattle.band.specs.declared.Tuned.the-variants as tuned
+use Rattle.olivia.specs.declared.Answer.{Answer}
+use Rattle.olivia.specs.declared.BlockAnswer.{BlockAnswer}
+use Rattle.olivia.specs.declared.HertzAnswer.{HertzAnswer}
+use Rattle.olivia.specs.declared.TrialAnswers.{TrialAnswers}
+
+-- number 0: accepted, with the count of tones or codes written
+abbrev pub acceptedTold : ℕ → Answer
+acceptedTold n = record { number = 0; place = 0; lead = 0; count = n }
+
+abbrev pub refusalTold : Refusal → Answer
+refusalTold r = record { number = r .number; place = r .place; lead = r .lead; count = 0 }
+
+abbrev pub encodedTold : Encoded → Answer
+encodedTold (encoded.Tones n) = acceptedTold n
+encodedTold (encoded.Refused r) = refusalTold r
+
+abbrev pub decodedTold : Decoded → Answer
+decodedTold (decoded.Text n) = acceptedTold n
+decodedTold (decoded.Refused r) = refusalTold r
+
+-- the leads of the eight characters
+unfoldable pub leadsOf : List Character → List ℕ
+leadsOf characters = tab (leadIn characters) 8
+
+unfoldable pub blockTold : BlockDecoded → BlockAnswer
+blockTold d = record { answer = decodedTold (d .answer); leads = leadsOf (d .characters) }
+
+-- a refusal has no frequency: 0 stands there
+abbrev pub hertzTold : Tuned → HertzAnswer
+hertzTold (tuned.Hertz x) = record { number = 0; place = 0; hertz = x }
+hertzTold (tuned.Refused r) = record { number = r .number; place = r .place; hertz = scaled 0 }
+
+-- the largest number of 32 bits stands for every larger count
+unfoldable pub capped : ℕ → ℕ
+capped n = min n 4294967295
+
+unfoldable pub trialTold : Trial → TrialAnswers
+trialTold t = record {
+  encoded = encodedTold (t .encoded);
+  first = decodedTold (t .first .answer);
+  second = decodedTold (t .second .answer);
+  replaced = capped (t .replaced);
+  missing = capped (t .missing);
+}
+
+-- ---- the count or the place that an answer carries
+
+abbrev pub carriedBy : Encoded → ℕ
+carriedBy (encoded.Tones n) = n
+carriedBy (encoded.Refused r) = r .place
+
+abbrev pub heardCarries : Decoded → ℕ
+heardCarries (decoded.Text n) = n
+heardCarries (decoded.Refused r) = r .place

@@ -1,0 +1,215 @@
+// The C library: the entries of document 01 for C and C++. include/olivia.h declares them.
+use block::Decoded;
+use block::Encoded;
+use refusal::Refusal;
+ghost use mathlib.Core.Path.{_≡_};
+ghost use Prim.Native.Nat.{_<_, _^_};
+ghost use lib.ListN.{length};
+ghost use Rattle.block.specs.Encoding.{encodeBlock, encodedInto};
+ghost use Rattle.block.specs.Decoding.{decodeBlock, decodedInto};
+ghost use Rattle.block.specs.Demand.{trialOf, Tried};
+ghost use Rattle.message.specs.Blocks.{longest};
+ghost use Rattle.message.specs.Encoding.{encodeMessage, messageEncodedInto};
+ghost use Rattle.message.specs.Decoding.{decodeMessage, messageDecodedInto};
+ghost use Rattle.band.specs.Frequencies.{frequencyOf};
+ghost use Rattle.olivia.specs.Told.{acceptedTold, refusalTold, encodedTold, decodedTold, leadsOf, blockTold, hertzTold, capped, trialTold, carriedBy, heardCarries};
+
+// number 0: accepted, and count is the tones or codes written. Else the refusal, and count is 0.
+#[repr(C)]
+pub struct Answer {
+    pub number: u32,
+    pub place: u32,
+    pub lead: u32,
+    pub count: u32,
+}
+
+// The answer for a block, and its characters' leads; 0 past the mode's, and where none was decided.
+#[repr(C)]
+pub struct BlockAnswer {
+    pub answer: Answer,
+    pub leads: [u32; 8],
+}
+
+// number 0: the frequency. Else the refusal, and hertz is 0.
+#[repr(C)]
+pub struct HertzAnswer {
+    pub number: u32,
+    pub place: u32,
+    pub hertz: f64,
+}
+
+// The answers of the three calls, and document 01's r and u.
+#[repr(C)]
+pub struct TrialAnswers {
+    pub encoded: Answer,
+    pub first: Answer,
+    pub second: Answer,
+    pub replaced: u32,
+    pub missing: u32,
+}
+
+#[no_mangle]
+pub extern "C" fn olivia_encode_block(mode: u32, codes: &[u8], tones: &mut [u16]) -> Answer
+    ensures answer { λ r. ⌜ r ≡ encodedTold (encodeBlock mode (now (codes .entry)) (length (now (tones .entry)))) ⌝ }
+    ensures output { λ _. ⌜ now (tones .exit) ≡ encodedInto mode (now (codes .entry)) (now (tones .entry)) ⌝ }
+{
+    told_encoded(block::encode_block(mode, codes, tones))
+}
+
+#[no_mangle]
+pub extern "C" fn olivia_decode_block(
+    mode: u32,
+    least_lead: u32,
+    tones: &[u16],
+    codes: &mut [u8],
+) -> BlockAnswer
+    ensures answer { λ r. ⌜ r ≡ blockTold (decodeBlock mode «least_lead» (now (tones .entry)) (length (now (codes .entry)))) ⌝ }
+    ensures output { λ _. ⌜ now (codes .exit) ≡ decodedInto mode «least_lead» (now (tones .entry)) (now (codes .entry)) ⌝ }
+{
+    let heard = block::decode_block(mode, least_lead, tones, codes);
+    let answer = heard.answer;
+    let characters = heard.characters;
+    BlockAnswer {
+        answer: told_decoded(answer),
+        leads: leads_of(characters),
+    }
+}
+
+#[no_mangle]
+pub extern "C" fn olivia_encode_message(mode: u32, text: &[u8], tones: &mut [u16]) -> Answer
+    ensures answer { λ r. ⌜ r ≡ encodedTold (encodeMessage longest mode (now (text .entry)) (length (now (tones .entry)))) ⌝ }
+    ensures output { λ _. ⌜ now (tones .exit) ≡ messageEncodedInto longest mode (now (text .entry)) (now (tones .entry)) ⌝ }
+{
+    told_encoded(message::encode_message(mode, text, tones))
+}
+
+#[no_mangle]
+pub extern "C" fn olivia_decode_message(
+    mode: u32,
+    least_lead: u32,
+    tones: &[u16],
+    text: &mut [u8],
+) -> Answer
+    ensures answer { λ r. ⌜ r ≡ decodedTold (decodeMessage longest mode «least_lead» (now (tones .entry)) (length (now (text .entry)))) ⌝ }
+    ensures output { λ _. ⌜ now (text .exit) ≡ messageDecodedInto longest mode «least_lead» (now (tones .entry)) (now (text .entry)) ⌝ }
+{
+    told_decoded(message::decode_message(mode, least_lead, tones, text))
+}
+
+#[no_mangle]
+pub extern "C" fn olivia_frequency(mode: u32, width: u32, centre: u32, tone: u16) -> HertzAnswer
+    ensures { λ r. ⌜ r ≡ hertzTold (frequencyOf mode width centre tone) ⌝ }
+{
+    let tuned = band::frequency(mode, width, centre, tone);
+    match tuned {
+        band::Tuned::Hertz(hertz) => HertzAnswer {
+            number: 0,
+            place: 0,
+            hertz,
+        },
+        band::Tuned::Refused(refusal) => {
+            let answer = refused(refusal);
+            HertzAnswer {
+                number: answer.number,
+                place: answer.place,
+                hertz: 0.0,
+            }
+        }
+    }
+}
+
+// The promise of block::trial::run, of the answers as C is told them.
+#[no_mangle]
+pub extern "C" fn olivia_trial_run(
+    mode: u32,
+    least_lead: u32,
+    text: &[u8],
+    heard: &[u16],
+    tones: &mut [u16],
+    first: &mut [u8],
+    second: &mut [u8],
+) -> TrialAnswers
+    ensures answers { λ r. ⌜ r ≡ trialTold (trialOf mode «least_lead» (now (text .entry)) (now (heard .entry)) (now (tones .entry)) (now (first .entry)) (now (second .entry))) ⌝ }
+    ensures demand { λ _. ⌜ Tried mode «least_lead» (now (text .entry)) (now (heard .entry)) (trialOf mode «least_lead» (now (text .entry)) (now (heard .entry)) (now (tones .entry)) (now (first .entry)) (now (second .entry))) (now (tones .entry)) (now (tones .exit)) (now (first .entry)) (now (first .exit)) (now (second .entry)) (now (second .exit)) ⌝ }
+{
+    let trial = block::trial::run(mode, least_lead, text, heard, tones, first, second);
+    let encoded = trial.encoded;
+    let one = trial.first;
+    let two = trial.second;
+    let first_answer = one.answer;
+    let second_answer = two.answer;
+    TrialAnswers {
+        encoded: told_encoded(encoded),
+        first: told_decoded(first_answer),
+        second: told_decoded(second_answer),
+        replaced: capped(trial.replaced),
+        missing: capped(trial.missing),
+    }
+}
+
+fn accepted(count: usize) -> Answer
+    requires { ⌜ count < 2 ^ 32 ⌝ }
+    ensures { λ r. ⌜ r ≡ acceptedTold count ⌝ }
+{
+    Answer {
+        number: 0,
+        place: 0,
+        lead: 0,
+        count: count as u32,
+    }
+}
+
+fn refused(refusal: Refusal) -> Answer
+    requires { ⌜ refusal .place < 2 ^ 32 ⌝ }
+    ensures { λ r. ⌜ r ≡ refusalTold refusal ⌝ }
+{
+    Answer {
+        number: refusal.number as u32,
+        place: refusal.place as u32,
+        lead: refusal.lead,
+        count: 0,
+    }
+}
+
+fn told_encoded(answer: Encoded) -> Answer
+    requires { ⌜ carriedBy answer < 2 ^ 32 ⌝ }
+    ensures { λ r. ⌜ r ≡ encodedTold answer ⌝ }
+{
+    match answer {
+        Encoded::Tones(count) => accepted(count),
+        Encoded::Refused(refusal) => refused(refusal),
+    }
+}
+
+fn told_decoded(answer: Decoded) -> Answer
+    requires { ⌜ heardCarries answer < 2 ^ 32 ⌝ }
+    ensures { λ r. ⌜ r ≡ decodedTold answer ⌝ }
+{
+    match answer {
+        Decoded::Text(count) => accepted(count),
+        Decoded::Refused(refusal) => refused(refusal),
+    }
+}
+
+fn leads_of(characters: [walsh::Character; 8]) -> [u32; 8]
+    ensures { λ r. ⌜ r ≡ leadsOf characters ⌝ }
+{
+    let mut leads = [0u32; 8];
+    let mut q: usize = 0;
+    while q < 8 {
+        let character = characters[q];
+        leads[q] = character.lead;
+        q += 1;
+    }
+    leads
+}
+
+// A count for C: 2^32 - 1 stands for every larger one.
+fn capped(count: usize) -> u32
+    ensures { λ r. ⌜ r ≡ capped count ⌝ }
+{
+    if 0xffff_ffff < count {
+        return 0xffff_ffff;
+    }
+    count as u32
+}

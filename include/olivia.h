@@ -1,0 +1,114 @@
+/* The Olivia text link for C and C++: from characters to tones and back. Link libolivia.a.
+ *
+ * A mode b is 1 to 8: a symbol has b bits, a block b characters, and a tone is below 2^b. A block is 64 tones.
+ * Tone 65535 marks a missing one, and may stand only in tones to be decoded. A code is one byte, 0 to 127. A
+ * message is 0 to 1,024 codes from 1 to 127. The set lead, least_lead, is 1 to 64: what a character's lead has
+ * to reach to be clear.
+ *
+ * What a caller owes. A pointer with a count n is to n elements that may be read, and a pointer with a room is
+ * to as many elements that may be read and written. Each is aligned for its type. With 0 elements it is not
+ * followed, and may be NULL. Memory that is lent to be written overlaps nothing else that is passed, and nothing
+ * else uses it during the call. Nothing else is asked: every other argument may have any value. No function
+ * keeps a pointer, allocates memory or has a state.
+ *
+ * What every function gives. It returns for every input, and the answer and what it leaves in the caller's
+ * memory depend on what is passed alone. The checks are made in the order that its comment lists, and the first
+ * that fails is the refusal. A refusal writes nothing. An accepted call writes the elements that its comment
+ * names, and every other element keeps its contents.
+ *
+ * Refusals, with the place that is told, which is 0 unless the table says another:
+ *
+ *    1  the mode is not 1 to 8
+ *    2  the set lead is not 1 to 64
+ *    3  the width is not 125, 250, 500, 1000 or 2000
+ *    4  the centre is above 10,000, or twice the centre is below the width
+ *    5  a block has not exactly b codes, or a message has over 1,024
+ *    6  a code of 128 or more, in a message also code 0; place of the lowest
+ *    7  a block has not exactly 64 tones, or a message's tones are no multiple of 64 or over 64 * ceil(1024 / b)
+ *    8  a tone that is not below 2^b, nor a missing mark where that is allowed; the lowest place (a frequency: 0)
+ *    9  the output is shorter than 64 tones a block encoded, or b bytes a block decoded
+ *   10  unclear; place of the lowest unclear character, counted from the text's start, and its lead
+ *   11  a 0 before the end of a message's text, place of the first; if none, and at least b codes
+ *       stand from the end on, place of the end
+ *   12  a message's text is over 1,024 codes; place 1,024
+ */
+#ifndef OLIVIA_H
+#define OLIVIA_H
+
+#include <stddef.h>
+#include <stdint.h>
+
+#ifdef __cplusplus
+extern "C" {
+#endif
+
+/* number 0: accepted, place and lead are 0, and count is the tones or codes written. Else the refusal's number,
+ * its place, its lead (0 unless the number is 10), and count is 0. */
+typedef struct {
+    uint32_t number;
+    uint32_t place;
+    uint32_t lead;
+    uint32_t count;
+} olivia_answer;
+
+/* A block's answer, and the leads of its b characters. The rest of leads is 0, and all of it after a refusal
+ * but 10. */
+typedef struct {
+    olivia_answer answer;
+    uint32_t leads[8];
+} olivia_block;
+
+/* number 0: place is 0, and hertz is the frequency. Else the refusal's number and place, and hertz is 0. */
+typedef struct {
+    uint32_t number;
+    uint32_t place;
+    double hertz;
+} olivia_hertz;
+
+/* The answers of the three calls of a trial, and the tones of heard that are replaced and missing. A count that
+ * 32 bits do not hold is told as 4294967295. */
+typedef struct {
+    olivia_answer encoded, first, second;
+    uint32_t replaced, missing;
+} olivia_trial;
+
+/* Encodes the n codes of a block. Checks 1, 5, 9, 6. Accepted: count is 64, and the first 64 elements of tones
+ * are the block's tones. */
+olivia_answer olivia_encode_block(uint32_t mode, const uint8_t *codes, size_t n, uint16_t *tones, size_t room);
+
+/* Decodes the n tones of a block. Checks 1, 2, 7, 9, 8, 10. Accepted, if every character's lead is at least the
+ * set lead: count is b, and the first b elements of codes are the block's codes. */
+olivia_block olivia_decode_block(uint32_t mode, uint32_t least_lead, const uint16_t *tones, size_t n,
+                                 uint8_t *codes, size_t room);
+
+/* Encodes a text of n codes; code 0 fills the last block. Checks 1, 5, 9, 6. Accepted: count is
+ * 64 * ceil(n / b), and so many elements at the front of tones are the message's tones. */
+olivia_answer olivia_encode_message(uint32_t mode, const uint8_t *text, size_t n, uint16_t *tones, size_t room);
+
+/* Decodes the n tones of a message. Every block is decided before anything is written. Checks 1, 2, 7, 9, 8,
+ * 10, 11, 12. Accepted: count is the place after the last code that is not 0, or 0, and so many elements at the
+ * front of text are the message's codes. The room asked for, b bytes a block, counts the filling that is not
+ * written. */
+olivia_answer olivia_decode_message(uint32_t mode, uint32_t least_lead, const uint16_t *tones, size_t n,
+                                    uint8_t *text, size_t room);
+
+/* The frequency of a tone in Hz, exactly: centre - width / 2 + spacing / 2 + spacing * tone, where spacing is
+ * width / 2^b. Checks 1, 3, 4, 8; the missing mark is no tone here. */
+olivia_hertz olivia_frequency(uint32_t mode, uint32_t width, uint32_t centre, uint16_t tone);
+
+/* Encodes the block text into tones, decodes the tones written into first, and decodes heard into second. Each
+ * answer and output is that of the call of olivia_encode_block or olivia_decode_block; if encoding is refused,
+ * no tone is sent. missing is the number u of marks in heard, and replaced the number r of places where another
+ * tone than the one sent is heard, and no mark. If text is b codes below 128, heard is 64 tones below 2^b or
+ * marks, and no setting or room is refused, then first is given text; second is given text if 64 - 2u - 4r is
+ * at least the set lead; and if 2u + 4r is below 64 plus the set lead, second is given text or
+ * refused with 10. */
+olivia_trial olivia_trial_run(uint32_t mode, uint32_t least_lead, const uint8_t *text, size_t n,
+                              const uint16_t *heard, size_t heard_n, uint16_t *tones, size_t tones_room,
+                              uint8_t *first, size_t first_room, uint8_t *second, size_t second_room);
+
+#ifdef __cplusplus
+}
+#endif
+
+#endif

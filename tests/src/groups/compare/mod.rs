@@ -1,0 +1,55 @@
+//! The library against the paper on random inputs: whole answers, whole outputs with what lies around them, and inputs unchanged.
+
+mod block;
+mod draw;
+mod frequency;
+mod message;
+mod tally;
+mod trial;
+
+use super::Report;
+use olivia_tests::random::Random;
+use std::fmt::Debug;
+use tally::Tally;
+
+const SEED: u64 = 2;
+
+/// The inputs of one call.
+trait Case: Debug {
+    const FUNCTION: &'static str;
+
+    /// The refusals that the function can give.
+    const REFUSALS: &'static [u32];
+
+    fn draw(random: &mut Random) -> Self;
+
+    fn mode(&self) -> u32;
+
+    /// Makes the call, and answers with the numbers that both sides gave.
+    fn compare(&self) -> Result<Vec<u32>, String>;
+}
+
+pub fn run() -> Report {
+    let mut random = Random::new(SEED);
+    let mut tally = Tally::default();
+    many::<block::Encode>(&mut random, &mut tally, 60_000)?;
+    many::<block::Decode>(&mut random, &mut tally, 80_000)?;
+    many::<message::Encode>(&mut random, &mut tally, 20_000)?;
+    many::<message::Decode>(&mut random, &mut tally, 20_000)?;
+    many::<frequency::Frequency>(&mut random, &mut tally, 60_000)?;
+    many::<trial::Trial>(&mut random, &mut tally, 40_000)?;
+    tally.expect_every_refusal()?;
+    Ok(tally.lines())
+}
+
+fn many<C: Case>(random: &mut Random, tally: &mut Tally, cases: usize) -> Result<(), String> {
+    let row = tally.open::<C>();
+    for _ in 0..cases {
+        let case = C::draw(random);
+        let numbers = case.compare();
+        let numbers =
+            numbers.map_err(|difference| format!("{} {case:?}: {difference}", C::FUNCTION))?;
+        row.add(case.mode(), &numbers);
+    }
+    row.expect_all()
+}

@@ -1,0 +1,96 @@
+//! Trials: a block sent, heard as it was sent, and heard damaged.
+
+use super::super::lent::Lent;
+use super::super::{answer_of, expect_equal, written};
+use super::block::{codes_to_send, tones_to_hear};
+use super::draw::{self, Wrong};
+use olivia_tests::library;
+use olivia_tests::paper;
+use olivia_tests::random::Random;
+
+#[derive(Debug)]
+pub struct Trial {
+    mode: u32,
+    least_lead: u32,
+    text: Vec<u8>,
+    heard: Vec<u16>,
+    /// Of the tones, the first text and the second.
+    rooms: [usize; 3],
+}
+
+impl super::Case for Trial {
+    const FUNCTION: &'static str = "trial_run";
+    const REFUSALS: &'static [u32] = &[1, 2, 5, 6, 7, 8, 9, 10];
+
+    fn draw(random: &mut Random) -> Self {
+        let (sending, hearing) = (Wrong::draw(random), Wrong::draw(random));
+        let b = random.between(1, 8);
+        let first_short = random.one_in(8);
+        let least_lead = draw::least_lead(random, hearing.lead);
+        let text = codes_to_send(random, b, &sending);
+        // What is heard comes from the text, or, where that cannot be sent, from one that can.
+        let mut sent = text.clone();
+        sent.resize(b, 0);
+        sent.iter_mut().for_each(|code| *code %= 128);
+        Trial {
+            mode: draw::mode(random, b, sending.mode && hearing.mode),
+            least_lead,
+            text,
+            heard: tones_to_hear(random, b, &sent, least_lead, &hearing),
+            rooms: [
+                draw::room(random, paper::SYMBOLS, sending.room),
+                draw::room(random, b, first_short),
+                draw::room(random, b, hearing.room),
+            ],
+        }
+    }
+
+    fn mode(&self) -> u32 {
+        self.mode
+    }
+
+    fn compare(&self) -> Result<Vec<u32>, String> {
+        let mut text = Lent::input(&self.text);
+        let mut heard = Lent::input(&self.heard);
+        let mut tones = Lent::output(self.rooms[0]);
+        let mut first = Lent::output(self.rooms[1]);
+        let mut second = Lent::output(self.rooms[2]);
+        let given = library::trial_run(
+            self.mode,
+            self.least_lead,
+            text.part(),
+            heard.part(),
+            tones.part(),
+            first.part(),
+            second.part(),
+        );
+        let said = paper::trial(
+            self.mode,
+            self.least_lead,
+            &self.text,
+            &self.heard,
+            self.rooms,
+        );
+        expect_equal("answer", all_answers(&said), given)?;
+        tones.expect("tones", written(&said.encoded))?;
+        first.expect("first text", written(&said.first))?;
+        second.expect("second text", written(&said.second))?;
+        text.expect("text handed in", &self.text)?;
+        heard.expect("tones handed in", &self.heard)?;
+        Ok(vec![
+            given.encoded.number,
+            given.first.number,
+            given.second.number,
+        ])
+    }
+}
+
+fn all_answers(said: &paper::Trial) -> library::Trial {
+    library::Trial {
+        encoded: answer_of(&said.encoded),
+        first: answer_of(&said.first),
+        second: answer_of(&said.second),
+        replaced: said.replaced as u32,
+        missing: said.missing as u32,
+    }
+}

@@ -1,0 +1,89 @@
+//! Blocks as the air leaves them: r symbols replaced and u missing, up to and beyond the bounds of demand 3.
+
+use olivia_tests::paper;
+use olivia_tests::random::Random;
+
+/// r symbols replaced and u missing.
+#[derive(Clone, Copy, Debug)]
+pub struct Amount {
+    pub replaced: usize,
+    pub missing: usize,
+}
+
+impl Amount {
+    fn cost(self) -> usize {
+        2 * self.missing + 4 * self.replaced
+    }
+
+    /// 64 − 2u − 4r is at least m: the same text is given.
+    pub fn keeps_text(self, least_lead: usize) -> bool {
+        self.cost() + least_lead <= 64
+    }
+
+    /// 2u + 4r is below 64 + m: no other text is given.
+    pub fn shuts_out_others(self, least_lead: usize) -> bool {
+        self.cost() < 64 + least_lead
+    }
+}
+
+/// For each r that has one, the last amount within the bound, and the first beyond it.
+pub fn edges(within: impl Fn(Amount) -> bool) -> Vec<Amount> {
+    let mut amounts = vec![];
+    for replaced in 0..=paper::SYMBOLS {
+        let amount = |missing| Amount { replaced, missing };
+        let most = paper::SYMBOLS - replaced;
+        let beyond = (0..=most).find(|&missing| !within(amount(missing)));
+        let last = beyond.map_or(Some(most), |missing| missing.checked_sub(1));
+        amounts.extend(last.map(amount));
+        amounts.extend(beyond.map(amount));
+        if last.is_none() {
+            break;
+        }
+    }
+    amounts
+}
+
+/// Where the damage goes.
+#[derive(Clone, Copy, Debug)]
+pub enum Aim {
+    /// To any places, with any other tones.
+    Anywhere,
+    /// To places that count towards one rival word of one character, with tones that differ in that character's bit alone.
+    OneCharacter,
+    /// To the same places, with tones that differ in every character's bit.
+    EveryCharacter,
+}
+
+pub const AIMS: [Aim; 3] = [Aim::Anywhere, Aim::OneCharacter, Aim::EveryCharacter];
+
+/// The tones of a block with these codes, so damaged.
+pub fn damaged(random: &mut Random, b: usize, codes: &[u8], amount: Amount, aim: Aim) -> Vec<u16> {
+    let mut tones = paper::block_tones(b, codes);
+    let q = random.below(b);
+    let places = match aim {
+        Aim::Anywhere => random.shuffled(paper::SYMBOLS),
+        Aim::OneCharacter | Aim::EveryCharacter => towards_a_rival(random, codes[q]),
+    };
+    let (replaced, others) = places.split_at(amount.replaced);
+    for &t in replaced {
+        let turned = match aim {
+            Aim::Anywhere => random.between(1, paper::tone_count(b) - 1),
+            Aim::OneCharacter => 1 << paper::place_in_symbol(b, q, t),
+            Aim::EveryCharacter => paper::tone_count(b) - 1,
+        };
+        tones[t] = paper::tone_of(paper::symbol_of(tones[t]) ^ turned as u16);
+    }
+    for &t in &others[..amount.missing] {
+        tones[t] = paper::MISSING;
+    }
+    tones
+}
+
+/// All places, first the 32 at which the bit of a code differs from that of a code with another word.
+fn towards_a_rival(random: &mut Random, code: u8) -> Vec<usize> {
+    let other_word = random.between(1, 63) as u8;
+    let rival = code ^ other_word ^ random.pick(&[0, 64]);
+    let mut places = random.shuffled(paper::SYMBOLS);
+    places.sort_by_key(|&t| paper::code_bit(code, t) == paper::code_bit(rival, t));
+    places
+}

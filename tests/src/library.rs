@@ -1,0 +1,159 @@
+//! The library's C interface, and the same functions over slices.
+
+/// Number 0 is acceptance. `count` is how many tones or codes were written.
+#[repr(C)]
+#[derive(Clone, Copy, Debug, Default, PartialEq, Eq)]
+pub struct Answer {
+    pub number: u32,
+    pub place: u32,
+    pub lead: u32,
+    pub count: u32,
+}
+
+#[repr(C)]
+#[derive(Clone, Copy, Debug, Default, PartialEq, Eq)]
+pub struct Block {
+    pub answer: Answer,
+    pub leads: [u32; 8],
+}
+
+#[repr(C)]
+#[derive(Clone, Copy, Debug, Default, PartialEq)]
+pub struct Hertz {
+    pub number: u32,
+    pub place: u32,
+    pub hertz: f64,
+}
+
+#[repr(C)]
+#[derive(Clone, Copy, Debug, Default, PartialEq, Eq)]
+pub struct Trial {
+    pub encoded: Answer,
+    pub first: Answer,
+    pub second: Answer,
+    pub replaced: u32,
+    pub missing: u32,
+}
+
+mod c {
+    use super::{Answer, Block, Hertz, Trial};
+
+    extern "C" {
+        pub fn olivia_encode_block(
+            mode: u32,
+            codes: *const u8,
+            n: usize,
+            tones: *mut u16,
+            room: usize,
+        ) -> Answer;
+        pub fn olivia_decode_block(
+            mode: u32,
+            least_lead: u32,
+            tones: *const u16,
+            n: usize,
+            codes: *mut u8,
+            room: usize,
+        ) -> Block;
+        pub fn olivia_encode_message(
+            mode: u32,
+            text: *const u8,
+            n: usize,
+            tones: *mut u16,
+            room: usize,
+        ) -> Answer;
+        pub fn olivia_decode_message(
+            mode: u32,
+            least_lead: u32,
+            tones: *const u16,
+            n: usize,
+            text: *mut u8,
+            room: usize,
+        ) -> Answer;
+        pub fn olivia_frequency(mode: u32, width: u32, centre: u32, tone: u16) -> Hertz;
+        pub fn olivia_trial_run(
+            mode: u32,
+            least_lead: u32,
+            text: *const u8,
+            n: usize,
+            heard: *const u16,
+            heard_n: usize,
+            tones: *mut u16,
+            tones_room: usize,
+            first: *mut u8,
+            first_room: usize,
+            second: *mut u8,
+            second_room: usize,
+        ) -> Trial;
+    }
+}
+
+// Safety of each call below: a slice's pointer and length are those of memory that the caller may read, and, if lent as mutable,
+// write; a mutable one overlaps no other; and the library keeps no pointer. With no elements the pointer may be null, and is.
+
+fn start<T>(values: &[T]) -> *const T {
+    if values.is_empty() {
+        std::ptr::null()
+    } else {
+        values.as_ptr()
+    }
+}
+
+fn start_mut<T>(values: &mut [T]) -> *mut T {
+    if values.is_empty() {
+        std::ptr::null_mut()
+    } else {
+        values.as_mut_ptr()
+    }
+}
+
+pub fn encode_block(mode: u32, codes: &[u8], tones: &mut [u16]) -> Answer {
+    let (to, room) = (start_mut(tones), tones.len());
+    unsafe { c::olivia_encode_block(mode, start(codes), codes.len(), to, room) }
+}
+
+pub fn decode_block(mode: u32, least_lead: u32, tones: &[u16], codes: &mut [u8]) -> Block {
+    let (to, room) = (start_mut(codes), codes.len());
+    unsafe { c::olivia_decode_block(mode, least_lead, start(tones), tones.len(), to, room) }
+}
+
+pub fn encode_message(mode: u32, text: &[u8], tones: &mut [u16]) -> Answer {
+    let (to, room) = (start_mut(tones), tones.len());
+    unsafe { c::olivia_encode_message(mode, start(text), text.len(), to, room) }
+}
+
+pub fn decode_message(mode: u32, least_lead: u32, tones: &[u16], text: &mut [u8]) -> Answer {
+    let (to, room) = (start_mut(text), text.len());
+    unsafe { c::olivia_decode_message(mode, least_lead, start(tones), tones.len(), to, room) }
+}
+
+pub fn frequency(mode: u32, width: u32, centre: u32, tone: u16) -> Hertz {
+    unsafe { c::olivia_frequency(mode, width, centre, tone) }
+}
+
+/// Encodes `text` into `tones`, decodes what was written into `first`, and `heard` into `second`.
+pub fn trial_run(
+    mode: u32,
+    least_lead: u32,
+    text: &[u8],
+    heard: &[u16],
+    tones: &mut [u16],
+    first: &mut [u8],
+    second: &mut [u8],
+) -> Trial {
+    unsafe {
+        c::olivia_trial_run(
+            mode,
+            least_lead,
+            start(text),
+            text.len(),
+            start(heard),
+            heard.len(),
+            start_mut(tones),
+            tones.len(),
+            start_mut(first),
+            first.len(),
+            start_mut(second),
+            second.len(),
+        )
+    }
+}

@@ -1,0 +1,28 @@
+//! Runs every group of tests, one line or more for each, and stops with status 1 at the first difference.
+
+mod groups;
+
+use groups::{compare, demand3, sheet, vectors, Report};
+use std::process::ExitCode;
+
+type Group = (&'static str, fn() -> Report);
+
+const GROUPS: [Group; 4] = [
+    ("vectors", vectors::run),
+    ("sheet", sheet::run),
+    ("compare", compare::run),
+    ("demand3", demand3::run),
+];
+
+fn main() -> ExitCode {
+    for (name, run) in GROUPS {
+        match run() {
+            Ok(lines) => println!("{name}: {lines}"),
+            Err(difference) => {
+                eprintln!("{name}: {difference}");
+                return ExitCode::FAILURE;
+            }
+        }
+    }
+    ExitCode::SUCCESS
+}

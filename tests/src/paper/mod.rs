@@ -1,0 +1,38 @@
+//! Document 01 ("Olivia text link: from characters to tones and back") written down a second time, to hold the library against.
+//!
+//! Each function quotes the rule that it is. Nothing here is fast or shared with the library: a correlation is a sum over 64
+//! places, and the symbol of a tone is searched for. A function hands back what an entry has to write; `room` is the length of the
+//! output that the entry would be lent.
+
+mod demand;
+mod frequencies;
+mod hearing;
+mod messages;
+mod refusals;
+mod sending;
+
+pub use demand::{trial, Trial};
+pub use frequencies::frequency;
+pub use hearing::{decode_block, symbol_of, Heard};
+pub use messages::{decode_message, encode_message};
+pub use refusals::Refusal;
+pub use sending::{block_tones, code_bit, encode_block, place_in_symbol, tone_of};
+
+/// "A block is 64 symbols."
+pub const SYMBOLS: usize = 64;
+
+/// "Tones are 16-bit numbers; 65535 marks a missing one."
+pub const MISSING: u16 = 65535;
+
+/// "A message is 0 to 1,024 codes from 1 to 127."
+pub const LONGEST_MESSAGE: usize = 1024;
+
+/// "It has 2^b tones, numbered from 0."
+pub fn tone_count(b: usize) -> usize {
+    1 << b
+}
+
+/// The blocks of a message of `codes` codes: "The sender fills the last block with code 0."
+pub fn block_count(b: usize, codes: usize) -> usize {
+    codes.div_ceil(b)
+}
