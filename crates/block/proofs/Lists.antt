@@ -1,14 +1,16 @@
 -- Lists filled from the front and first places: a turn of a loop each, and what they hold.
 use mathlib.Core.Path.{_≡_, refl, sym, _∙_, ap}
-use mathlib.Core.Bool.{Bool, true, false, cond}
+use mathlib.Core.Bool.{Bool, true, false, cond, _||_}
 use mathlib.Core.List.{List, [], _∷_, _++_, append-assoc, append-nil}
 use Prim.Native.Nat.{ℕ, zero, suc, _+_, _-_, _<_, _≤_}
 use native.Mathlib.Decide.{ℕ-discrete, decLt}
 use native.Mathlib.Nat.{sub-zero}
 use native.Mathlib.Numerals.{add-one}
 use native.Mathlib.Omega.{arith}
+use lib.Dec.{ltb}
 use lib.ListN.{length, getD, set, drop, length-append, length-drop, drop-of-length-le, List·getD-append}
 use lib.Seq.{drop-cons, set-at, getD-at}
+use borrow.Author.Tests.{ltb-false, lt-ltb, le-ltb}
 use Rattle.walsh.specs.Lists.{tab}
 use Rattle.walsh.proofs.Tables.{tab-length, tab-at, is-tab}
 use Rattle.block.specs.Lists.{filled, scan}
@@ -83,6 +85,29 @@ scan-ext p q i zero h = refl
 scan-ext p q i (suc n) h =
     rw (h i (omega arith) (omega arith))
     (ap (λ (s : ℕ). cond (q i) i s) (scan-ext p q (suc i) n (λ k l g. h k (omega arith) (omega arith))))
+
+-- ---- whether there is such a place
+
+pub scan-found : (p : ℕ → Bool) (t : ℕ) (found : Bool) → found ≡ ltb (scan p 0 t) t → found || p t ≡ ltb (scan p 0 (t + 1)) (t + 1)
+scan-found p t found h = rw (h, add-one) (by (decLt (scan p 0 t) t) (scan-first p 0 t) (p t) refl)
+  where
+    by : Dec (scan p 0 t < t) → First p 0 t (scan p 0 t) → (b : Bool) → p t ≡ b → ltb (scan p 0 t) t || p t ≡ ltb (scan p 0 (suc t)) (suc t)
+    by (yes l) f b e =
+        let same : scan p 0 (suc t) ≡ scan p 0 t = scan-at p (suc t) (scan p 0 t) (omega arith) (f .found (omega arith)) (λ k g. f .before k (omega arith) g) in
+        rw (same, lt-ltb (scan p 0 t) t l) (sym (lt-ltb (scan p 0 t) (suc t) (omega arith)))
+    by (no n) f true e =
+        let here : scan p 0 (suc t) ≡ t = scan-at p (suc t) t (omega arith) e (λ k g. f .before k (omega arith) (omega arith)) in
+        rw (here, le-ltb (scan p 0 t) t (omega arith), e) (sym (lt-ltb t (suc t) (omega arith)))
+    by (no n) f false e =
+        let none : scan p 0 (suc t) ≡ 0 + suc t = scan-none p 0 (suc t) (λ k l g. at k g (ℕ-discrete k t)) in
+        rw (none, le-ltb (scan p 0 t) t (omega arith), e) (sym (le-ltb (0 + suc t) (suc t) (omega arith)))
+      where
+        at : (k : ℕ) → k < 0 + suc t → Dec (k ≡ t) → p k ≡ false
+        at k g (yes q) = rw q e
+        at k g (no ne) = f .before k (omega arith) (omega arith)
+
+pub scan-not-found : (p : ℕ → Bool) (n : ℕ) → ltb (scan p 0 n) n ≡ false → n ≡ scan p 0 n
+scan-not-found p n e = omega (arith, ltb-false (scan p 0 n) n e, scan-first p 0 n .high)
 
 -- ---- a list filled from the front
 

@@ -6,7 +6,7 @@ use mathlib.Core.Logic.{_⊎_, inl, inr, ⊎-elim}
 use Prim.Native.Nat.{ℕ, _<_, _≤_, _^_}
 use native.Mathlib.Nat.{lt-of-lt-of-le}
 use native.Mathlib.Omega.{arith}
-use borrow.Author.Tests.{leb-false, eqb-true, le-leb, lt-leb, eq-eqb}
+use borrow.Author.Tests.{leb-false, eqb-true, lt-leb, eq-eqb}
 use lib.Dec.{leb, eqb}
 use lib.ListN.{length}
 use lib.Pow.{pow-mono}
@@ -35,16 +35,13 @@ text-in-range b text h =
 
 -- ---- tones
 
-pub good-tone : (limit n : ℕ) → (n < limit) ⊎ (n ≡ missingMark) → leb limit n && not (eqb n missingMark) ≡ false
+good-tone : (limit n : ℕ) → (n < limit) ⊎ (n ≡ missingMark) → leb limit n && not (eqb n missingMark) ≡ false
 good-tone limit n (inl l) = rw (lt-leb limit n l)
 good-tone limit n (inr e) = rw (eq-eqb n missingMark e) (and-false-right (leb limit n))
   where
     and-false-right : (s : Bool) → s && false ≡ false
     and-false-right true = refl
     and-false-right false = refl
-
-pub bad-tone : (limit n : ℕ) → limit ≤ n → not (eqb n missingMark) ≡ true → leb limit n && not (eqb n missingMark) ≡ true
-bad-tone limit n h e = rw (le-leb limit n h, e)
 
 tone-good : (limit n : ℕ) → leb limit n && not (eqb n missingMark) ≡ false → (n < limit) ⊎ (n ≡ missingMark)
 tone-good limit n e = by (leb limit n) refl (eqb n missingMark) refl e

@@ -3,14 +3,12 @@ use mathlib.Core.Path.{_≡_, refl, sym, _∙_, ap}
 use mathlib.Core.Bool.{Bool, true, false, cond, not, Bool·beq}
 use mathlib.Core.List.{List}
 use Prim.Native.Nat.{ℕ, zero, suc, _+_, _-_, _*_, _<_, _≤_, _%_, _^_}
-use native.Mathlib.Decide.{ℕ-discrete}
-use native.Mathlib.Nat.{zero-mod, mod-lt, mod-add-mod, mod-self, mod-eq-of-lt, one-mul, pow-suc}
+use native.Mathlib.Nat.{mod-lt, mod-eq-of-lt, add-mod-left, one-mul}
 use native.Mathlib.Numerals.{add-one}
 use native.Mathlib.Omega.{arith}
-use lib.Dec.{eqb, lit<}
+use lib.Dec.{lit<}
 use lib.ListN.{length, replicate}
-use lib.Pow.{pow-mono, pow-lt, shl-exact}
-use borrow.Author.Tests.{eq-eqb, ne-eqb}
+use lib.Pow.{pow-mono, shl-exact}
 use Rattle.walsh.specs.Lists.{tab}
 use Rattle.walsh.specs.Sums.{total}
 use Rattle.walsh.specs.Words.{turned}
@@ -21,34 +19,21 @@ use Rattle.block.specs.Tables.{placeWeight, partSymbols}
 use Rattle.block.proofs.Xors.{turned-differs}
 
 module _ (b : ℕ) (low : 1 ≤ b) (high : b ≤ 8) where
-  -- as a u16
-  pub last-weight : 1 * 2 ^ (b - 1) % 65536 ≡ 2 ^ (b - 1)
-  last-weight = shl-exact {a = 1} 1 (b - 1) 16 (lit< tt) (omega arith) ∙ one-mul (2 ^ (b - 1))
-
-  pub first-weight : placeWeight b 0 ≡ 1
-  unfolding placeWeight
-  first-weight = ap (λ (n : ℕ). 2 ^ n) (zero-mod b)
-
   pub weight-small : (i : ℕ) → placeWeight b i ≤ 128
   unfolding placeWeight
   weight-small i = pow-mono {i = i % b} {j = 7} (omega (arith, mod-lt i low))
 
-  next-mod : (i : ℕ) → (i + 1) % b ≡ (i % b + 1) % b
-  next-mod i = sym (mod-add-mod i b 1)
-
-  pub next-weight : (i : ℕ) → cond (eqb (placeWeight b i) (2 ^ (b - 1))) 1 (2 * placeWeight b i) ≡ placeWeight b (i + 1)
+  -- the first b, as u16
+  pub first-weight : (i : ℕ) → i < b → 1 * 2 ^ i % 65536 ≡ placeWeight b i
   unfolding placeWeight
-  next-weight i = by (ℕ-discrete (i % b) (b - 1)) (mod-lt i low)
-    where
-      by : Dec (i % b ≡ b - 1) → i % b < b → cond (eqb (2 ^ (i % b)) (2 ^ (b - 1))) 1 (2 * 2 ^ (i % b)) ≡ 2 ^ ((i + 1) % b)
-      by (yes e) l =
-          let round : (i + 1) % b ≡ 0 =
-          next-mod i ∙ ap (λ (n : ℕ). n % b) (let s : i % b + 1 ≡ b = omega arith in s) ∙ mod-self b in
-          rw (eq-eqb (2 ^ (i % b)) (2 ^ (b - 1)) (ap (λ (n : ℕ). 2 ^ n) e), round) refl
-      by (no ne) l =
-          let less : 2 ^ (i % b) < 2 ^ (b - 1) = pow-lt {i = i % b} {j = b - 1} (omega arith) in
-          let on : (i + 1) % b ≡ suc (i % b) = next-mod i ∙ mod-eq-of-lt {n = i % b + 1} {m = b} (omega arith) ∙ add-one (i % b) in
-          rw (ne-eqb (2 ^ (i % b)) (2 ^ (b - 1)) (λ e. omega arith), on) (omega (arith, pow-suc 2 (i % b)))
+  first-weight i h =
+      shl-exact {a = 1} 1 i 16 (lit< tt) (omega arith) ∙ one-mul (2 ^ i) ∙ ap (λ (n : ℕ). 2 ^ n) (sym (mod-eq-of-lt h))
+
+  -- the others, from b places before
+  pub weight-round : (i : ℕ) → b ≤ i → placeWeight b (i - b) ≡ placeWeight b i
+  unfolding placeWeight
+  weight-round i h =
+      ap (λ (n : ℕ). 2 ^ n) (sym (add-mod-left b (i - b)) ∙ ap (λ (n : ℕ). n % b) (let e : b + (i - b) ≡ i = omega arith in e))
 
 -- ---- the symbols as far as some characters go
 

@@ -13,14 +13,14 @@ ghost use Rattle.block.specs.Lists.{filled};
 ghost use Rattle.block.specs.Decoding.{missingMark, HasTones, symbolOf, symbolsOf, heardSymbol, charactersOf, codeIn, firstUnclear};
 
 // A missing tone's symbol is missing too.
-fn heard_symbol(symbols: &[u16; 256], tone: u16) -> u16
+fn heard_symbol(symbols: &[u8; 256], tone: u16) -> u16
     requires { ⌜ (now symbols ≡ tab symbolOf 256) × ((tone < 256) ⊎ (tone ≡ missingMark)) ⌝ }
     ensures { λ r. ⌜ r ≡ heardSymbol tone ⌝ }
 {
     if tone == MISSING {
         return MISSING;
     }
-    symbols[tone as usize]
+    symbols[tone as usize] as u16
 }
 
 fn heard_symbols(tones: &[u16]) -> [u16; 64]

@@ -5,7 +5,7 @@ ghost use Rattle.block.specs.Chain.{gray};
 ghost use Rattle.block.specs.Decoding.{symbolOf};
 
 // The Gray code of the entry at place g is g.
-const SYMBOLS: [u16; 256] = [
+const SYMBOLS: [u8; 256] = [
     0,
     1,
     3,
@@ -271,7 +271,7 @@ pub fn tone_of(symbol: u16) -> u16
 }
 
 // The symbols of all tones.
-pub fn symbols() -> [u16; 256]
+pub fn symbols() -> [u8; 256]
     ensures { λ r. ⌜ r ≡ tab symbolOf 256 ⌝ }
 {
     SYMBOLS

@@ -3,33 +3,25 @@ use super::MISSING;
 use super::scrambler;
 ghost use mathlib.Core.Path.{_≡_};
 ghost use mathlib.Core.Bool.{cond};
-ghost use Prim.Native.Nat.{_+_, _*_, _<_, _≤_};
-ghost use lib.Dec.{eqb};
+ghost use Prim.Native.Nat.{_+_, _<_, _≤_};
 ghost use lib.ListN.{length};
 ghost use Rattle.walsh.specs.Lists.{tab};
 ghost use Rattle.block.specs.Chain.{symbolAt};
 ghost use Rattle.block.specs.Tables.{keysAt, placeWeight, partSymbols, countBy, tableCount};
-
-// The weight of the next place, and from the last to the first.
-fn next_weight(last: u16, weight: u16) -> u16
-    requires { ⌜ weight ≤ 128 ⌝ }
-    ensures { λ r. ⌜ r ≡ cond (eqb weight last) 1 (2 * weight) ⌝ }
-{
-    if weight == last { 1 } else { 2 * weight }
-}
 
 // The weights of the places, round and round: that of character q in symbol t is entry q + t.
 pub fn weights(mode: usize) -> [u16; 72]
     requires { ⌜ (1 ≤ mode) × (mode ≤ 8) ⌝ }
     ensures { λ r. ⌜ r ≡ tab (placeWeight mode) 72 ⌝ }
 {
-    let last = 1u16 << (mode - 1);
     let mut weights = [0u16; 72];
-    let mut weight: u16 = 1;
     let mut i: usize = 0;
+    while i < mode {
+        weights[i] = 1u16 << i;
+        i += 1;
+    }
     while i < 72 {
-        weights[i] = weight;
-        weight = next_weight(last, weight);
+        weights[i] = weights[i - mode];
         i += 1;
     }
     weights

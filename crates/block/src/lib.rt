@@ -3,10 +3,12 @@ use refusal::Refusal;
 use refusal::checks;
 use walsh::Character;
 ghost use mathlib.Core.Path.{_≡_};
+ghost use mathlib.Core.Bool.{not, _&&_};
 ghost use Prim.Native.Nat.{_≤_};
+ghost use lib.Dec.{ltb, leb, eqb};
 ghost use lib.ListN.{length};
 ghost use Rattle.block.specs.Encoding.{encodeBlock, encodedInto};
-ghost use Rattle.block.specs.Decoding.{firstBadTone, refused, judgement, decodeBlock, decodedInto};
+ghost use Rattle.block.specs.Decoding.{missingMark, firstBadTone, refused, judgement, decodeBlock, decodedInto};
 
 mod decode;
 mod encode;
@@ -107,15 +109,37 @@ pub fn decide_block(mode: u32, least_lead: u32, tones: &[u16], room: usize) -> B
 pub fn first_bad_tone(limit: u16, tones: &[u16]) -> usize
     ensures { λ r. ⌜ r ≡ firstBadTone limit (now (tones .entry)) ⌝ }
 {
+    if !has_bad_tone(limit, tones) {
+        return tones.len();
+    }
     let mut t: usize = 0;
     while t < tones.len() {
-        let tone = tones[t];
-        if limit <= tone && tone != MISSING {
+        if is_bad_tone(limit, tones[t]) {
             return t;
         }
         t += 1;
     }
     t
+}
+
+// Whether there is such a tone. Tones without one are common: this loop looks at all, so the compiler makes vector code of it.
+fn has_bad_tone(limit: u16, tones: &[u16]) -> bool
+    ensures { λ r. ⌜ r ≡ ltb (firstBadTone limit (now (tones .entry))) (length (now (tones .entry))) ⌝ }
+{
+    let mut found = false;
+    let mut t: usize = 0;
+    while t < tones.len() {
+        let bad = is_bad_tone(limit, tones[t]);
+        found = found | bad;
+        t += 1;
+    }
+    found
+}
+
+fn is_bad_tone(limit: u16, tone: u16) -> bool
+    ensures { λ r. ⌜ r ≡ leb limit tone && not (eqb tone missingMark) ⌝ }
+{
+    limit <= tone && tone != MISSING
 }
 
 fn refused(number: u8, place: usize) -> BlockDecoded

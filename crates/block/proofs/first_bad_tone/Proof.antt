@@ -1,15 +1,11 @@
 use mathlib.Core.Path.{_≡_, sym, _∙_}
-use mathlib.Core.Bool.{true, false}
-use mathlib.Core.Logic.{inl, inr, ⊎-elim}
 use Prim.Native.Nat.{_≤_, _-_}
-use native.Mathlib.Omega.{arith}
 use lib.ListN.{length}
 use borrow.Author.Needs.{needs}
-use borrow.Author.Tests.{eqb-true, not-false}
-use Rattle.block.specs.Lists.{num, scan}
-use Rattle.block.specs.Decoding.{missingMark, badTone, firstBadTone}
-use Rattle.block.proofs.Lists.{scan-start, scan-hit, scan-miss, scan-end}
-use Rattle.block.proofs.Ranges.{good-tone, bad-tone}
+use borrow.Author.Tests.{not-true}
+use Rattle.block.specs.Lists.{scan}
+use Rattle.block.specs.Decoding.{badTone, firstBadTone}
+use Rattle.block.proofs.Lists.{scan-start, scan-hit, scan-miss, scan-end, scan-not-found}
 use Rattle.block.proofs.first_bad_tone.Statement.{statement}
 use Rattle.block.proofs.first_bad_tone.Tie as tie
 
@@ -20,23 +16,30 @@ Inv-loop limit tones t₀ t =
 abbrev μ-loop : tie.MeasureT-loop
 μ-loop limit tones t₀ t = length tones - t
 
+has-bad-tone-requires : tie.Need-has-bad-tone-requires Inv-loop μ-loop
+has-bad-tone-requires c κs = search needs
+
+returns : tie.Need-returns Inv-loop μ-loop
+unfolding firstBadTone
+returns c = scan-not-found _ _ (sym (c .before .has-bad-tone .ensures) ∙ not-true _ (c .if1 .taken))
+
 loop-holds : tie.Need-loop-holds Inv-loop μ-loop
 unfolding firstBadTone
 loop-holds c = (search needs, scan-start _ _)
 
-mul-tone : tie.Need-mul-tone Inv-loop μ-loop
-mul-tone c = search needs
+mul-is-bad-tone : tie.Need-mul-is-bad-tone Inv-loop μ-loop
+mul-is-bad-tone c = search needs
 
-shared-slice-read-tone : tie.Need-shared-slice-read-tone Inv-loop μ-loop
-shared-slice-read-tone c = search needs
+shared-slice-read-is-bad-tone : tie.Need-shared-slice-read-is-bad-tone Inv-loop μ-loop
+shared-slice-read-is-bad-tone c = search needs
 
-returns : tie.Need-returns Inv-loop μ-loop
-returns c =
-    let l = c .before .before .before .before in
-    let s = l .before in
-    let here : badTone (s .args .limit) (s .args .tones .now) (l .loop .t) ≡ true =
-    bad-tone (s .args .limit) (num (s .args .tones .now) (l .loop .t)) (omega (arith, c .before .if1 .taken)) (c .if2 .taken) in
-    sym (scan-hit _ (l .loop .t) _ (c .before .before .before .loop-test .taken) here) ∙ l .loop .inv .1
+is-bad-tone-requires : tie.Need-is-bad-tone-requires Inv-loop μ-loop
+is-bad-tone-requires c κs = search needs
+
+returns-2 : tie.Need-returns-2 Inv-loop μ-loop
+returns-2 c =
+    let l = c .before .before .before .before .loop in
+    sym (scan-hit _ (l .t) _ (c .before .before .before .loop-test .taken) (sym (c .before .is-bad-tone .ensures) ∙ c .if2 .taken)) ∙ l .inv .1
 
 add-t : tie.Need-add-t Inv-loop μ-loop
 add-t c = search needs
@@ -46,14 +49,11 @@ loop-less c = search needs
 
 loop-again : tie.Need-loop-again Inv-loop μ-loop
 loop-again c =
-    let l = c .before .before .before in
-    let s = l .before in
-    let here : badTone (s .args .limit) (s .args .tones .now) (l .loop .t) ≡ false =
-    good-tone (s .args .limit) (num (s .args .tones .now) (l .loop .t)) (⊎-elim (λ w. inr (eqb-true _ missingMark (not-false _ (w .1 .left)))) (λ w. inl (w .left)) (c .if1 .came)) in
-    (search needs, scan-miss _ (l .loop .t) _ (c .before .before .loop-test .taken) here ∙ l .loop .inv .1)
+    let l = c .before .before .before .before .loop in
+    (search needs, scan-miss _ (l .t) _ (c .before .before .before .loop-test .taken) (sym (c .before .is-bad-tone .ensures) ∙ c .if2 .left) ∙ l .inv .1)
 
-returns-2 : tie.Need-returns-2 Inv-loop μ-loop
-returns-2 c = sym (scan-end _ (c .before .loop .t) _ (c .loop-test .left)) ∙ c .before .loop .inv .1
+returns-3 : tie.Need-returns-3 Inv-loop μ-loop
+returns-3 c = sym (scan-end _ (c .before .loop .t) _ (c .loop-test .left)) ∙ c .before .loop .inv .1
 
 pub first-bad-tone-spec : {M : Type 1} → statement M
 first-bad-tone-spec =
@@ -61,11 +61,14 @@ first-bad-tone-spec =
     (tie.spec
     Inv-loop
     μ-loop
-    loop-holds
-    mul-tone
-    shared-slice-read-tone
+    has-bad-tone-requires
     returns
+    loop-holds
+    mul-is-bad-tone
+    shared-slice-read-is-bad-tone
+    is-bad-tone-requires
+    returns-2
     add-t
     loop-less
     loop-again
-    returns-2)
+    returns-3)

@@ -5,7 +5,7 @@ use native.Mathlib.Omega.{arith}
 use lib.IntN.{ℤ}
 use lib.ListN.{replicate}
 use borrow.Author.Needs.{needs}
-use Rattle.walsh.specs.Lists.{at}
+use Rattle.walsh.specs.Lists.{tab, at}
 use Rattle.walsh.specs.Words.{corr}
 use Rattle.walsh.specs.Decision.{decision}
 use Rattle.block.specs.Lists.{filled}
@@ -59,11 +59,12 @@ loop-again c =
     let l = c .before .before .before .before .before .before in
     let s = l .before .before .before .before .before in
     let symbols = l .before .before .before .heard-symbols in
+    let counted : c .before .counts .result ≡ tab (countIn (s .args .mode) (symbols .result) (l .loop .q)) 64 =
+    c .before .counts .ensures
+    ∙ table-counts (s .args .mode) (l .loop .q) (l .before .before .keys .result) (l .before .weights .result) (symbols .result) (l .before .before .keys .ensures) (l .before .weights .ensures) (omega arith) in
     let here : c .decide .result ≡ characterAt (s .args .mode) (s .args .tones .now) (l .loop .q) =
     c .decide .ensures
-    ∙ ap (λ (x : List ℤ). decision (corr (at x)))
-    (c .before .counts .ensures
-    ∙ table-counts (s .args .mode) (l .loop .q) _ _ _ (l .before .before .keys .ensures) (l .before .weights .ensures) (omega arith))
+    ∙ ap (λ (x : List ℤ). decision (corr (at x))) counted
     ∙ table-decision (countIn (s .args .mode) (symbols .result) (l .loop .q))
     ∙ ap (λ (x : List ℕ). decision (corr (countIn (s .args .mode) x (l .loop .q)))) (symbols .ensures) in
     (search needs, filled-set none _ (l .loop .q) _ _ _ (omega arith) (l .loop .inv .1) here)
