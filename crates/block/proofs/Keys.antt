@@ -9,7 +9,7 @@ use native.Mathlib.Numerals.{one-add}
 use native.Mathlib.Omega.{arith}
 use lib.Bits.{bitAnd, and-high}
 use lib.Dec.{eqb}
-use lib.IntN.{pos}
+use lib.IntN.{ℤ, pos}
 use lib.Pow.{pow-pos}
 use borrow.Author.Tests.{eq-eqb, ne-eqb}
 use Rattle.walsh.specs.Lists.{tab}
@@ -50,6 +50,7 @@ table-count b symbols q t h l =
     ap₂ (λ (k : Bool) (w : ℕ). cond (eqb (num symbols t) missingMark) (pos 0) (signed (turned k (not (eqb (bitAnd (num symbols t) w) 0))) (pos 1))) key weight
     ∙ ap (λ (d : Bool). cond (eqb (num symbols t) missingMark) (pos 0) (signed (turned (keyBit q t) d) (pos 1))) (weight-bit (num symbols t) ((q + t) % b))
 
-pub table-counts : (b q : ℕ) (keys weights symbols : List ℕ) → keys ≡ tab keysAt 64 → weights ≡ tab (placeWeight b) 72 → q < 8
-    → tab (tableCount keys weights symbols q) 64 ≡ tab (countIn b symbols q) 64
-table-counts b q keys weights symbols k w h = rw (k, w) (tab-ext (pos 0) _ _ 64 (λ t l. table-count b symbols q t h l))
+-- the counts of character q, made by the tables
+pub table-counts : (b q : ℕ) (keys weights symbols : List ℕ) (counts : List ℤ) → keys ≡ tab keysAt 64 → weights ≡ tab (placeWeight b) 72 → q < 8
+    → counts ≡ tab (tableCount keys weights symbols q) 64 → counts ≡ tab (countIn b symbols q) 64
+table-counts b q keys weights symbols counts k w h e = e ∙ rw (k, w) (tab-ext (pos 0) _ _ 64 (λ t l. table-count b symbols q t h l))

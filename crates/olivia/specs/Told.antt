@@ -1,10 +1,12 @@
 -- What C is told of each answer (include/olivia.h).
+use mathlib.Core.Path.{_≡_}
 use mathlib.Core.List.{List}
 use Prim.Native.Nat.{ℕ, min}
 use Rattle.refusal.specs.declared.Refusal.{Refusal}
 use Rattle.walsh.specs.Lists.{tab}
 use Rattle.walsh.specs.declared.Character.{Character}
 use Rattle.block.specs.Decoding.{leadIn}
+use Rattle.block.specs.Demand.{trialOf, Tried}
 use Rattle.block.specs.declared.Encoded.{Encoded}
 use Rattle.block.specs.declared.Encoded.the-variants as encoded
 use Rattle.block.specs.declared.Decoded.{Decoded}
@@ -58,6 +60,11 @@ trialTold t = record {
   replaced = capped (t .replaced);
   missing = capped (t .missing);
 }
+
+-- the promise of a trial: C is told the answers, and of these and of the outputs demand 3 holds
+pub record TriedForC (b m : ℕ) (text heard : List ℕ) (r : TrialAnswers) (tones tones′ first first′ second second′ : List ℕ) : Type 0 where
+  pub answers : r ≡ trialTold (trialOf b m text heard tones first second)
+  pub tried : Tried b m text heard (trialOf b m text heard tones first second) tones tones′ first first′ second second′
 
 -- ---- the count or the place that an answer carries
 

@@ -7,12 +7,11 @@ ghost use Prim.Native.Nat.{_<_, _^_};
 ghost use lib.ListN.{length};
 ghost use Rattle.block.specs.Encoding.{encodeBlock, encodedInto};
 ghost use Rattle.block.specs.Decoding.{decodeBlock, decodedInto};
-ghost use Rattle.block.specs.Demand.{trialOf, Tried};
 ghost use Rattle.message.specs.Blocks.{longest};
 ghost use Rattle.message.specs.Encoding.{encodeMessage, messageEncodedInto};
 ghost use Rattle.message.specs.Decoding.{decodeMessage, messageDecodedInto};
 ghost use Rattle.band.specs.Frequencies.{frequencyOf};
-ghost use Rattle.olivia.specs.Told.{acceptedTold, refusalTold, encodedTold, decodedTold, leadsOf, blockTold, hertzTold, capped, trialTold, carriedBy, heardCarries};
+ghost use Rattle.olivia.specs.Told.{acceptedTold, refusalTold, encodedTold, decodedTold, leadsOf, blockTold, hertzTold, capped, TriedForC, carriedBy, heardCarries};
 
 // number 0: accepted, and count is the tones or codes written. Else the refusal, and count is 0.
 #[repr(C)]
@@ -129,8 +128,7 @@ pub extern "C" fn olivia_trial_run(
     first: &mut [u8],
     second: &mut [u8],
 ) -> TrialAnswers
-    ensures answers { λ r. ⌜ r ≡ trialTold (trialOf mode «least_lead» (now (text .entry)) (now (heard .entry)) (now (tones .entry)) (now (first .entry)) (now (second .entry))) ⌝ }
-    ensures demand { λ _. ⌜ Tried mode «least_lead» (now (text .entry)) (now (heard .entry)) (trialOf mode «least_lead» (now (text .entry)) (now (heard .entry)) (now (tones .entry)) (now (first .entry)) (now (second .entry))) (now (tones .entry)) (now (tones .exit)) (now (first .entry)) (now (first .exit)) (now (second .entry)) (now (second .exit)) ⌝ }
+    ensures { λ r. ⌜ TriedForC mode «least_lead» (now (text .entry)) (now (heard .entry)) r (now (tones .entry)) (now (tones .exit)) (now (first .entry)) (now (first .exit)) (now (second .entry)) (now (second .exit)) ⌝ }
 {
     let trial = block::trial::run(mode, least_lead, text, heard, tones, first, second);
     let encoded = trial.encoded;

@@ -39,11 +39,13 @@ returns : tie.Need-returns
 unfolding trialTold
 returns c =
     let first = c .before .before .before in
-    let ran = first .before .before .before .before .before .before .before .before .before .before .run in (
-      rw (first .before .told-encoded .ensures, first .told-decoded .ensures, c .before .before .told-decoded2 .ensures, c .before .capped .ensures, c .capped2 .ensures)
-          (λ i. trialTold (ran .ensures .answers i)),
-      rw (ran .ensures .answers) at (ran .ensures),
-    )
+    let ran = first .before .before .before .before .before .before .before .before .before .before .run in
+    record {
+      answers =
+          rw (first .before .told-encoded .ensures, first .told-decoded .ensures, c .before .before .told-decoded2 .ensures, c .before .capped .ensures, c .capped2 .ensures)
+          (λ i. trialTold (ran .ensures .answers i));
+      tried = rw (ran .ensures .answers) at (ran .ensures);
+    }
 
 pub olivia-trial-run-spec : {M : Type 1} → statement M
 olivia-trial-run-spec =

@@ -60,8 +60,7 @@ loop-again c =
     let s = l .before .before .before .before .before in
     let symbols = l .before .before .before .heard-symbols in
     let counted : c .before .counts .result ≡ tab (countIn (s .args .mode) (symbols .result) (l .loop .q)) 64 =
-    c .before .counts .ensures
-    ∙ table-counts (s .args .mode) (l .loop .q) (l .before .before .keys .result) (l .before .weights .result) (symbols .result) (l .before .before .keys .ensures) (l .before .weights .ensures) (omega arith) in
+    table-counts (s .args .mode) (l .loop .q) _ _ _ _ (l .before .before .keys .ensures) (l .before .weights .ensures) (omega arith) (c .before .counts .ensures) in
     let here : c .decide .result ≡ characterAt (s .args .mode) (s .args .tones .now) (l .loop .q) =
     c .decide .ensures
     ∙ ap (λ (x : List ℤ). decision (corr (at x))) counted
