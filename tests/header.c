@@ -1,0 +1,103 @@
+/* Every function of include/olivia.h called from C, as C11 and as C++: what the header declares is what the library has. The calls
+ * are of document 01's bench sheet, or close to it; the tests in Rust have the rest. */
+#include <olivia.h>
+
+#include <assert.h>
+#include <stdio.h>
+#include <string.h>
+
+enum { TONES = 64, MISSING = 65535 };
+
+static_assert(sizeof(olivia_answer) == 16, "four numbers of 32 bits");
+static_assert(offsetof(olivia_block, leads) == 16 && sizeof(olivia_block) == 48, "an answer and eight numbers");
+static_assert(offsetof(olivia_hertz, hertz) == 8 && sizeof(olivia_hertz) == 16, "two numbers and a double");
+static_assert(offsetof(olivia_trial, replaced) == 48 && sizeof(olivia_trial) == 56, "three answers and two numbers");
+
+static int cases, failures;
+
+static void check(const char *what, int holds)
+{
+    cases++;
+    if (!holds) {
+        failures++;
+        fprintf(stderr, "tests/header.c: %s\n", what);
+    }
+}
+
+static int is(olivia_answer answer, uint32_t number, uint32_t place, uint32_t lead, uint32_t count)
+{
+    return answer.number == number && answer.place == place && answer.lead == lead && answer.count == count;
+}
+
+static void blocks(void)
+{
+    static const uint16_t first[8] = {0, 0, 1, 1, 0, 1, 1, 1};
+    const uint8_t code = 0;
+    uint16_t tones[TONES + 1];
+    uint8_t codes[2] = {99, 99};
+
+    tones[TONES] = 99;
+    check("case 1 encoded", is(olivia_encode_block(1, &code, 1, tones, TONES + 1), 0, 0, 0, TONES));
+    check("case 1's tones", memcmp(tones, first, sizeof first) == 0 && tones[TONES] == 99);
+    check("mode 9", is(olivia_encode_block(9, &code, 1, tones, TONES), 1, 0, 0, 0));
+
+    olivia_block heard = olivia_decode_block(1, 64, tones, TONES, codes, 2);
+    check("case 6 decoded", is(heard.answer, 0, 0, 0, 1) && heard.leads[0] == 64 && heard.leads[7] == 0);
+    check("case 6's code", codes[0] == 0 && codes[1] == 99);
+    for (int t = 0; t < 30; t += 2)
+        tones[t] ^= 1;
+    heard = olivia_decode_block(1, 5, tones, TONES, codes, 1);
+    check("case 7 refused", is(heard.answer, 10, 0, 4, 0) && heard.leads[0] == 4);
+    tones[40] = 2;
+    check("tone 2 at mode 1", is(olivia_decode_block(1, 5, tones, TONES, codes, 1).answer, 8, 40, 0, 0));
+}
+
+static void messages(void)
+{
+    const uint8_t text[5] = {'4', '0', '7', '1', '3'}, with_zero[3] = {'4', 0, '7'};
+    uint16_t tones[2 * TONES];
+    uint8_t heard[6];
+
+    check("a message encoded", is(olivia_encode_message(3, text, 5, tones, 2 * TONES), 0, 0, 0, 2 * TONES));
+    check("a message decoded", is(olivia_decode_message(3, 64, tones, 2 * TONES, heard, 6), 0, 0, 0, 5));
+    check("its text", memcmp(heard, text, 5) == 0);
+    check("code 0 in a message", is(olivia_encode_message(3, with_zero, 3, tones, 2 * TONES), 6, 1, 0, 0));
+    check("an output too short", is(olivia_decode_message(3, 64, tones, 2 * TONES, heard, 5), 9, 0, 0, 0));
+    check("an empty message", is(olivia_encode_message(3, NULL, 0, NULL, 0), 0, 0, 0, 0));
+}
+
+static void frequencies(void)
+{
+    olivia_hertz low = olivia_frequency(5, 1000, 1500, 0), high = olivia_frequency(5, 1000, 1500, 31);
+    check("case 12, tone 0", low.number == 0 && low.place == 0 && low.hertz == 1015.625);
+    check("case 12, tone 31", high.number == 0 && high.place == 0 && high.hertz == 1984.375);
+    olivia_hertz refused = olivia_frequency(5, 999, 1500, 0);
+    check("a width of 999", refused.number == 3 && refused.place == 0 && refused.hertz == 0);
+}
+
+static void trials(void)
+{
+    const uint8_t text[2] = {64, 127};
+    uint16_t heard[TONES], tones[TONES];
+    uint8_t first[2], second[2];
+
+    olivia_encode_block(2, text, 2, heard, TONES);
+    heard[3] = MISSING;
+    heard[5] ^= 1;
+    heard[7] ^= 2;
+    olivia_trial trial = olivia_trial_run(2, 16, text, 2, heard, TONES, tones, TONES, first, 2, second, 2);
+    check("a trial's answers",
+          is(trial.encoded, 0, 0, 0, TONES) && is(trial.first, 0, 0, 0, 2) && is(trial.second, 0, 0, 0, 2));
+    check("a trial's damage", trial.replaced == 2 && trial.missing == 1);
+    check("a trial's texts", memcmp(first, text, 2) == 0 && memcmp(second, text, 2) == 0);
+}
+
+int main(void)
+{
+    blocks();
+    messages();
+    frequencies();
+    trials();
+    printf("header: %d cases\n", cases);
+    return failures != 0;
+}
