@@ -2,30 +2,30 @@
 use mathlib.Core.Path.{_≡_, refl, sym, ap, ap₂, _∙_}
 use mathlib.Core.Bool.{false}
 use Prim.Native.Nat.{ℕ, _+_, _-_, _*_, _^_, _<_, _≤_}
-use native.Mathlib.Nat.{mul-comm, mul-assoc, mul-right-comm, mul-le-mul, add-mul, le-of-lt}
+use native.Mathlib.Nat.{mul-comm, mul-assoc, mul-right-comm, mul-le-mul, add-mul, le-of-lt, lt-of-lt-of-le}
 use native.Mathlib.Omega.{arith}
 use lib.Dec.{lit<}
 use lib.Pow.{pow-add, pow-mono}
 use lib.Ieee.{Float, binary64, ofBits, ofInt, add, sub, mul, div}
 use lib.Ieee.Exact.{HasValue}
-use Rattle.band.specs.Exact.{scaled}
+use Rattle.band.specs.Exact.{scaled, whole}
 use Rattle.band.specs.Limits.{fault}
-use Rattle.band.specs.Frequencies.{edge512, spacing512, half512, tone512, hertzOf}
-use Rattle.band.specs.Laws.{whole}
+use Rattle.band.specs.Frequencies.{edge512, spacing512, half512, tone512, bandOf, hertzOf, hertzIn}
+use Rattle.band.specs.declared.Band.{Band}
 use Rattle.band.proofs.Scaling.{scaled-value, cast-exact, sum-exact, difference-exact, product-exact, quotient-exact}
 use Rattle.band.proofs.Rounding.{same-value}
 use Rattle.band.proofs.Settings.{Within, within}
 
 -- the literal 2.0
-abbrev pub two : Float
+abbrev two : Float
 two = ofBits binary64 0x4000_0000_0000_0000
 
-two-whole : two ≡ whole (2 ^ 1)
+two-whole : two ≡ whole 2
 unfolding ofBits ofInt
 two-whole = refl
 
-half-exact : (i : ℕ) → i < 2 ^ 53 → div binary64 (scaled (i * 2 ^ 1)) two ≡ scaled i
-half-exact i h = ap (λ (z : Float). div binary64 (scaled (i * 2 ^ 1)) z) two-whole ∙ quotient-exact i 1 (lit< tt) h
+half-exact : (i : ℕ) → i < 2 ^ 53 → div binary64 (scaled (i * 2)) (whole 2) ≡ scaled i
+half-exact i h = quotient-exact i 1 (lit< tt) h
 
 -- ---- the numbers of 1/512 Hz
 
@@ -55,6 +55,11 @@ edge-high w c h = omega arith
 
 -- ---- what the code computes
 
+pub hertz-computed : (band : Band) (n : ℕ)
+    → add binary64 (add binary64 (band .edge) (div binary64 (band .spacing) two)) (mul binary64 (band .spacing) (whole n)) ≡ hertzIn band n
+unfolding hertzIn
+hertz-computed band n = rw two-whole
+
 module _ (b w c : ℕ) (e : fault b w c 0 ≡ 0) where
   limits : Within b w c
   limits = within b w c 0 e
@@ -63,8 +68,9 @@ module _ (b w c : ℕ) (e : fault b w c 0 ≡ 0) where
   unfolding edge512
   edge-exact =
       let h = limits in
-      let twice : 512 * w ≡ 256 * w * 2 ^ 1 = omega arith in
-      ap₂ (λ (x y : Float). sub binary64 x (div binary64 y two)) (cast-exact c (omega arith)) (cast-exact w (omega arith) ∙ ap scaled twice)
+      let twice : 512 * w ≡ 256 * w * 2 = omega arith in
+      ap (λ (x : Float). sub binary64 (whole c) (div binary64 (whole w) x)) two-whole
+      ∙ ap₂ (λ (x y : Float). sub binary64 x (div binary64 y (whole 2))) (cast-exact c (omega arith)) (cast-exact w (omega arith) ∙ ap scaled twice)
       ∙ ap (λ (x : Float). sub binary64 (scaled (512 * c)) x) (half-exact (256 * w) (omega arith))
       ∙ difference-exact (512 * c) (256 * w) (omega arith) (omega arith)
 
@@ -75,21 +81,25 @@ module _ (b w c : ℕ) (e : fault b w c 0 ≡ 0) where
       ap (λ (x : Float). div binary64 x (whole (2 ^ b))) (cast-exact w (omega arith) ∙ ap scaled (sym (in-tones b (h .mode-high) w)))
       ∙ quotient-exact (spacing512 b w) b (omega arith) (omega arith)
 
-  pub tone-exact : (n : ℕ) → n < 2 ^ 16
-      → add binary64 (add binary64 (scaled (edge512 w c)) (div binary64 (scaled (spacing512 b w)) two)) (mul binary64 (scaled (spacing512 b w)) (whole n)) ≡ hertzOf b w c n
-  unfolding hertzOf tone512
-  tone-exact n l =
+  pub hertz-exact : (n : ℕ) → n < 2 ^ 16 → hertzIn (bandOf b w c) n ≡ hertzOf b w c n
+  unfolding hertzIn bandOf hertzOf tone512
+  hertz-exact n l =
       let h = limits in
       let low : edge512 w c ≤ 5120000 = edge-high w c (h .centre-high) in
       let small : spacing512 b w ≤ 512000 = spacing-high b w (h .mode-low) (h .width-high) in
-      let twice : spacing512 b w ≡ half512 b w * 2 ^ 1 = halved b (h .mode-high) w in
+      let twice : spacing512 b w ≡ half512 b w * 2 = halved b (h .mode-high) w in
       let product : spacing512 b w * n ≤ 512000 * 65536 = mul-le-mul small (le-of-lt l) in
-      let half : div binary64 (scaled (spacing512 b w)) two ≡ scaled (half512 b w) =
-      ap (λ (k : ℕ). div binary64 (scaled k) two) twice ∙ half-exact (half512 b w) (omega arith) in
-      let first : add binary64 (scaled (edge512 w c)) (div binary64 (scaled (spacing512 b w)) two) ≡ scaled (edge512 w c + half512 b w) =
+      let half : div binary64 (scaled (spacing512 b w)) (whole 2) ≡ scaled (half512 b w) =
+      ap (λ (k : ℕ). div binary64 (scaled k) (whole 2)) twice ∙ half-exact (half512 b w) (omega arith) in
+      let first : add binary64 (scaled (edge512 w c)) (div binary64 (scaled (spacing512 b w)) (whole 2)) ≡ scaled (edge512 w c + half512 b w) =
       ap (λ (x : Float). add binary64 (scaled (edge512 w c)) x) half ∙ sum-exact (edge512 w c) (half512 b w) (omega arith) in
       ap₂ (λ (x y : Float). add binary64 x y) first (product-exact (spacing512 b w) n (omega arith) (omega arith))
       ∙ sum-exact (edge512 w c + half512 b w) (spacing512 b w * n) (omega arith)
+
+  pub tone-hertz-exact : (n : ℕ) → n < 2 ^ b → hertzIn (bandOf b w c) n ≡ hertzOf b w c n
+  tone-hertz-exact n l =
+      let small : b ≤ 8 = limits .mode-high in
+      hertz-exact n (lt-of-lt-of-le l (pow-mono {i = b} {j = 16} (omega arith)))
 
 -- ---- the fractions
 

@@ -15,8 +15,8 @@ use lib.Ieee.Back.{round-whole}
 use lib.Ieee.Exact.{HasValue, odd-sign, round-exact}
 use lib.Ieee.Fits.{round-fits, odd-fits}
 use lib.Ieee.Scale.{round-same}
-use Rattle.band.specs.Exact.{scaled}
-use Rattle.band.specs.Laws.{Exact, whole, Steps}
+use Rattle.band.specs.Exact.{scaled, whole}
+use Rattle.band.specs.Laws.{Exact, Steps}
 use Rattle.band.proofs.OddParts.{one-value}
 use Rattle.band.proofs.Rounding.{sum-rounded, difference-rounded, product-rounded, quotient-rounded}
 

@@ -1,7 +1,7 @@
 -- The checks for frequencies, as tests and as numbers.
-use mathlib.Core.Path.{_≡_, refl, sym}
+use mathlib.Core.Path.{_≡_, refl}
 use mathlib.Core.Bool.{Bool, true, false, cond, not, _&&_, _||_}
-use Prim.Native.Nat.{ℕ, _*_, _%_, _^_, _≤_}
+use Prim.Native.Nat.{ℕ, _*_, _%_, _^_, _<_, _≤_}
 use native.Mathlib.Omega.{arith}
 use borrow.Author.Tests.{leb-true, eqb-true, lt-ltb}
 use lib.Dec.{leb, ltb, eqb}
@@ -10,13 +10,28 @@ use Rattle.refusal.specs.Checks.{isMode}
 use Rattle.refusal.proofs.Limits.{mode-range, mode-tones}
 use Rattle.band.specs.Limits.{isWidth, isCentre, fault}
 
--- ---- the first check that fails, from the four tests
+-- ---- the first check that fails
 
-pub first-fault : (b w c n : ℕ) (p q r s : Bool) → p ≡ isMode b → q ≡ isWidth w → r ≡ isCentre w c → s ≡ ltb n (2 ^ (b % 16))
-    → cond (not p) 1 (cond (not q) 3 (cond (not r) 4 (cond (not s) 8 0))) ≡ fault b w c n
-unfolding fault
-first-fault b w c n false q r s m h k t = rw (← m)
-first-fault b w c n true q r s m h k t = rw (← m, h, k, t, mode-tones b (sym m))
+module _ (b w c n : ℕ) where
+  pub mode-fails : isMode b ≡ false → 1 ≡ fault b w c n
+  unfolding fault
+  mode-fails p = rw p
+
+  pub width-fails : isMode b ≡ true → isWidth w ≡ false → 3 ≡ fault b w c n
+  unfolding fault
+  width-fails p q = rw (p, q)
+
+  pub centre-fails : isMode b ≡ true → isWidth w ≡ true → isCentre w c ≡ false → 4 ≡ fault b w c n
+  unfolding fault
+  centre-fails p q r = rw (p, q, r)
+
+  pub tone-fails : isMode b ≡ true → isWidth w ≡ true → isCentre w c ≡ true → ltb n (2 ^ (b % 16)) ≡ false → 8 ≡ fault b w c n
+  unfolding fault
+  tone-fails p q r s = rw (p, q, r, ← mode-tones b p, s)
+
+  pub none-fails : isMode b ≡ true → isWidth w ≡ true → isCentre w c ≡ true → ltb n (2 ^ (b % 16)) ≡ true → 0 ≡ fault b w c n
+  unfolding fault
+  none-fails p q r s = rw (p, q, r, ← mode-tones b p, s)
 
 -- ---- no check fails
 
@@ -36,11 +51,14 @@ passed b w c n e = by (isMode b) refl (isWidth w) refl (isCentre w c) refl e
     by true m false h r k e = absurd (omega (arith, e))
     by false m q h r k e = absurd (omega (arith, e))
 
-pub tone-0 : (b w c n : ℕ) → fault b w c n ≡ 0 → fault b w c 0 ≡ 0
+pub other-tone : (b w c m n : ℕ) → fault b w c m ≡ 0 → n < 2 ^ b → fault b w c n ≡ 0
 unfolding fault
-tone-0 b w c n e =
-    let p = passed b w c n e in
-    rw (p .mode, p .width, p .centre, lt-ltb 0 (2 ^ b) (pow-pos b))
+other-tone b w c m n e l =
+    let p = passed b w c m e in
+    rw (p .mode, p .width, p .centre, lt-ltb n (2 ^ b) l)
+
+pub tone-0 : (b w c n : ℕ) → fault b w c n ≡ 0 → fault b w c 0 ≡ 0
+tone-0 b w c n e = other-tone b w c n 0 e (pow-pos b)
 
 width-range : (w : ℕ) → isWidth w ≡ true → w ≤ 2000
 width-range w e = by (eqb w 125) refl (eqb w 250) refl (eqb w 500) refl (eqb w 1000) refl (eqb w 2000) refl e

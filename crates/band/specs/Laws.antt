@@ -3,11 +3,10 @@ use mathlib.Core.Path.{_≡_}
 use mathlib.Core.Bool.{false}
 use Prim.Native.Nat.{ℕ, _+_, _-_, _*_, _^_, _<_, _≤_}
 use lib.Dec.{T}
-use lib.IntN.{pos}
-use lib.Ieee.{Float, binary64, fits, ofInt, add, sub, mul, div}
+use lib.Ieee.{Float, binary64, fits, add, sub, mul, div}
 use lib.Ieee.Exact.{HasValue}
-use Rattle.band.specs.Exact.{scaled}
-use Rattle.band.specs.Frequencies.{plan, frequencyOf}
+use Rattle.band.specs.Exact.{scaled, whole}
+use Rattle.band.specs.Frequencies.{hertzIn, plan, frequencyOf}
 use Rattle.band.specs.declared.Band.{Band}
 use Rattle.band.specs.declared.Planned.the-variants as planned
 use Rattle.band.specs.declared.Tuned.the-variants as tuned
@@ -18,10 +17,6 @@ pub record Exact : Type 0 where
   pub value : (k : ℕ) → HasValue (scaled k) false k 512
   pub only : (k : ℕ) (x : Float) → k < 2 ^ 53 → T (fits binary64 x) → HasValue x false k 512 → x ≡ scaled k
 
--- the f64 of a whole number
-abbrev pub whole : ℕ → Float
-whole n = ofInt binary64 (pos n)
-
 -- The f64 operations on such numbers give the exact result, as long as it is below 2^53 / 512.
 pub record Steps : Type 0 where
   pub cast : (n : ℕ) → 512 * n < 2 ^ 53 → whole n ≡ scaled (512 * n)
@@ -31,9 +26,11 @@ pub record Steps : Type 0 where
   pub quotient : (i e : ℕ) → e < 53 → i < 2 ^ 53 → div binary64 (scaled (i * 2 ^ e)) (whole (2 ^ e)) ≡ scaled i
 
 -- The answers are the fractions of document 01: the lower edge is (2c − w) / 2, the spacing w / 2^b, and a tone, over the
--- denominator 2 × 2^b, lies at c − w / 2 + (w / 2^b) / 2 + (w / 2^b) × n.
+-- denominator 2 × 2^b, lies at c − w / 2 + (w / 2^b) / 2 + (w / 2^b) × n. Where a tone of the mode lies in the band is that
+-- same answer.
 pub record Fractions : Type 0 where
   pub edge : (b w c : ℕ) (band : Band) → plan b w c ≡ planned.Band band → HasValue (band .edge) false (2 * c - w) 2
   pub spacing : (b w c : ℕ) (band : Band) → plan b w c ≡ planned.Band band → HasValue (band .spacing) false w (2 ^ b)
   pub tone : (b w c n : ℕ) (x : Float) → frequencyOf b w c n ≡ tuned.Hertz x
       → HasValue x false ((2 * c - w) * 2 ^ b + w + 2 * w * n) (2 * 2 ^ b)
+  pub in-band : (b w c n : ℕ) (band : Band) → plan b w c ≡ planned.Band band → n < 2 ^ b → frequencyOf b w c n ≡ tuned.Hertz (hertzIn band n)

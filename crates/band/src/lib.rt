@@ -5,7 +5,7 @@ ghost use mathlib.Core.Path.{_≡_};
 ghost use Prim.Native.Nat.{_%_, _^_};
 ghost use lib.Dec.{ltb};
 ghost use Rattle.band.specs.Limits.{isWidth, isCentre, fault};
-ghost use Rattle.band.specs.Frequencies.{bandOf, plan, frequencyOf, ToneOf};
+ghost use Rattle.band.specs.Frequencies.{bandOf, hertzIn, plan, frequencyOf};
 
 pub mod laws;
 
@@ -43,9 +43,9 @@ impl Band {
         Planned::Band(band_of(mode, width, centre))
     }
 
-    // Where a tone lies: half a spacing above the lower edge of its stretch.
-    fn hertz(self, tone: u16) -> f64
-        ensures { λ r. ⌜ ToneOf self tone r ⌝ }
+    // Where a tone lies: half a spacing above the lower edge of its stretch. In a band of `Band::new` it is exact (law `Fractions`).
+    pub fn hertz(self, tone: u16) -> f64
+        ensures { λ r. ⌜ r ≡ hertzIn self tone ⌝ }
     {
         let half = self.spacing / 2.0;
         self.edge + half + self.spacing * (tone as f64)
@@ -68,20 +68,16 @@ pub fn frequency(mode: u32, width: u32, centre: u32, tone: u16) -> Tuned
 fn fault(mode: u32, width: u32, centre: u32, tone: u16) -> u8
     ensures { λ r. ⌜ r ≡ fault mode width centre tone ⌝ }
 {
-    let mode_fits = checks::is_mode(mode);
-    let width_fits = is_width(width);
-    let centre_fits = is_centre(width, centre);
-    let tone_fits = is_tone(mode, tone);
-    if !mode_fits {
+    if !checks::is_mode(mode) {
         return refusal::MODE;
     }
-    if !width_fits {
+    if !is_width(width) {
         return refusal::WIDTH;
     }
-    if !centre_fits {
+    if !is_centre(width, centre) {
         return refusal::CENTRE;
     }
-    if !tone_fits {
+    if !is_tone(mode, tone) {
         return refusal::TONE;
     }
     NONE

@@ -3,28 +3,16 @@
 use band::Band;
 use band::Planned;
 use band::Tuned;
+use case_printing::field;
+use case_printing::line_end;
+use case_printing::refused;
+use case_printing::text;
 use libc::STDOUT_FILENO;
-use refusal::Refusal;
-
-fn text(text: &[u8]) {
-    io::write_all(STDOUT_FILENO, text);
-}
-
-fn field(name: &[u8], number: u64) {
-    text(name);
-    io::print_decimal(STDOUT_FILENO, number);
-}
 
 fn settings(mode: u32, width: u32, centre: u32) {
     field(b"mode ", mode as u64);
     field(b" width ", width as u64);
     field(b" centre ", centre as u64);
-}
-
-fn refused(refusal: Refusal) {
-    field(b": refused ", refusal.number as u64);
-    field(b" place ", refusal.place as u64);
-    field(b" lead ", refusal.lead as u64);
 }
 
 // Its whole part, or 0 if that is no u64.
@@ -57,9 +45,9 @@ pub fn band(mode: u32, width: u32, centre: u32) {
             hertz(b": edge ", band.edge);
             hertz(b" spacing ", band.spacing);
         }
-        Planned::Refused(refusal) => refused(refusal),
+        Planned::Refused(refusal) => refused(b": refused ", refusal),
     }
-    text(b"\n");
+    line_end();
 }
 
 pub fn frequency(mode: u32, width: u32, centre: u32, tone: u16) {
@@ -68,7 +56,7 @@ pub fn frequency(mode: u32, width: u32, centre: u32, tone: u16) {
     let tuned = band::frequency(mode, width, centre, tone);
     match tuned {
         Tuned::Hertz(x) => hertz(b": ", x),
-        Tuned::Refused(refusal) => refused(refusal),
+        Tuned::Refused(refusal) => refused(b": refused ", refusal),
     }
-    text(b"\n");
+    line_end();
 }

@@ -8,13 +8,15 @@ use lib.ListN.{length, take, replicate}
 use lib.Ieee.{Float, nan, inf, fin, up, down}
 use lib.Ieee.Exact.{HasValue}
 use lib.Ieee.Fits.{and-l, and-r}
+use Rattle.lists.specs.Lists.{num}
 use Rattle.refusal.specs.Refused.{unclearAt}
-use Rattle.block.specs.Encoding.{encodedInto}
-use Rattle.block.specs.Decoding.{symbolOf, charactersOf, codeIn, leadIn, decodeBlock}
-use Rattle.block.specs.Demand.{replacedIn, missingIn}
-use Rattle.block.specs.declared.BlockDecoded.{BlockDecoded}
-use Rattle.block.specs.declared.Decoded.{Decoded}
-use Rattle.block.specs.declared.Decoded.the-variants as decoded
+use Rattle.chain.specs.Tables.{symbolOf}
+use Rattle.block_encoder.specs.Encoding.{encodedInto}
+use Rattle.block_decoder.specs.Decoding.{charactersOf, codesOf, leadIn, decodeBlock}
+use Rattle.block_decoder.specs.declared.BlockDecoded.{BlockDecoded}
+use Rattle.block_decoder.specs.declared.Decoded.{Decoded}
+use Rattle.block_decoder.specs.declared.Decoded.the-variants as decoded
+use Rattle.demands.specs.Demand.{replacedIn, missingIn}
 use Rattle.band.specs.Frequencies.{frequencyOf}
 use Rattle.band.specs.declared.Tuned.{Tuned}
 use Rattle.band.specs.declared.Tuned.the-variants as tuned
@@ -47,17 +49,17 @@ text (decoded.Text n) t = ap decoded.Text (eqb→eq n 1 t)
 text (decoded.Refused r) t = absurd t
 
 abbrev is-accepted : BlockDecoded → ℕ → ℕ → Bool
-is-accepted d v l = is-text (d .answer) && (eqb (codeIn (d .characters) 0) v && eqb (leadIn (d .characters) 0) l)
+is-accepted d v l = is-text (d .answer) && (eqb (num (codesOf (d .characters)) 0) v && eqb (leadIn (d .characters) 0) l)
 
 accepted : (d : BlockDecoded) (v l : ℕ) → T (is-accepted d v l) → Accepts d v l
 accepted d v l t =
     let first = is-text (d .answer) in
-    let second = eqb (codeIn (d .characters) 0) v in
+    let second = eqb (num (codesOf (d .characters)) 0) v in
     let third = eqb (leadIn (d .characters) 0) l in
     let rest = and-r first (second && third) t in
     record {
       answer = text (d .answer) (and-l first (second && third) t);
-      its-code = eqb→eq (codeIn (d .characters) 0) v (and-l second third rest);
+      its-code = eqb→eq (num (codesOf (d .characters)) 0) v (and-l second third rest);
       its-lead = eqb→eq (leadIn (d .characters) 0) l (and-r second third rest);
     }
 

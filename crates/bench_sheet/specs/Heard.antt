@@ -5,13 +5,12 @@ use mathlib.Core.List.{List, [], _∷_}
 use Prim.Native.Nat.{ℕ, _-_}
 use lib.Dec.{leb}
 use lib.ListN.{replicate}
-use Rattle.walsh.specs.Lists.{tab}
+use Rattle.lists.specs.Lists.{tab, num}
 use Rattle.walsh.specs.Words.{odd}
-use Rattle.block.specs.Lists.{num}
-use Rattle.block.specs.Chain.{tonesOf}
-use Rattle.block.specs.Decoding.{missingMark, codeIn, leadIn}
-use Rattle.block.specs.declared.BlockDecoded.{BlockDecoded}
-use Rattle.block.specs.declared.Decoded.the-variants.{Text}
+use Rattle.chain.specs.Chain.{tonesOf, missingMark}
+use Rattle.block_decoder.specs.Decoding.{codesOf, leadIn}
+use Rattle.block_decoder.specs.declared.BlockDecoded.{BlockDecoded}
+use Rattle.block_decoder.specs.declared.Decoded.the-variants.{Text}
 
 -- code 0, as encoded
 unfoldable pub case-1 : List ℕ
@@ -34,5 +33,5 @@ all-missing = replicate 64 missingMark
 -- the block is accepted, and its character has that code and lead
 pub record Accepts (d : BlockDecoded) (code lead : ℕ) : Type 0 where
   pub answer : d .answer ≡ Text 1
-  pub its-code : codeIn (d .characters) 0 ≡ code
+  pub its-code : num (codesOf (d .characters)) 0 ≡ code
   pub its-lead : leadIn (d .characters) 0 ≡ lead

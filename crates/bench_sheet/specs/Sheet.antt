@@ -7,10 +7,11 @@ use lib.Ieee.{Float}
 use lib.Ieee.Exact.{HasValue}
 use lib.ListN.{length, take, replicate}
 use Rattle.refusal.specs.Refused.{unclearAt}
-use Rattle.block.specs.Encoding.{encodedInto}
-use Rattle.block.specs.Decoding.{symbolOf, leadIn, charactersOf, decodeBlock}
-use Rattle.block.specs.Demand.{replacedIn, missingIn}
-use Rattle.block.specs.declared.Decoded.the-variants.{Refused}
+use Rattle.chain.specs.Tables.{symbolOf}
+use Rattle.block_encoder.specs.Encoding.{encodedInto}
+use Rattle.block_decoder.specs.Decoding.{leadIn, charactersOf, decodeBlock}
+use Rattle.block_decoder.specs.declared.Decoded.the-variants.{Refused}
+use Rattle.demands.specs.Demand.{replacedIn, missingIn}
 use Rattle.band.specs.Frequencies.{frequencyOf}
 use Rattle.band.specs.declared.Tuned.the-variants.{Hertz}
 use Rattle.bench_sheet.specs.Heard.{case-1, turned-to, missing-to, all-missing, Accepts}

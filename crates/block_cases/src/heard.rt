@@ -1,10 +1,10 @@
 // Blocks as they are heard.
-use block::MISSING;
+use chain::MISSING;
 ghost use Prim.Native.Nat.{_≤_};
 
 pub fn sent(mode: u32, codes: &[u8]) -> [u16; 64] {
     let mut tones = [0u16; 64];
-    block::encode_block(mode, codes, &mut tones);
+    block_encoder::encode_block(mode, codes, &mut tones);
     tones
 }
 

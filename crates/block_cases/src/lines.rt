@@ -1,30 +1,31 @@
-// A call of an entry and its line: the case, the answer, and the place from which on the output is as before the call.
-use super::outputs;
-use block::BlockDecoded;
-use block::Decoded;
-use block::Encoded;
-use libc::STDOUT_FILENO;
+// The answer of an entry, and the place from which on the output is as before the call. The line ends with it.
+use block_decoder::BlockDecoded;
+use block_decoder::Decoded;
+use block_encoder::Encoded;
+use case_printing::field;
+use case_printing::kept;
+use case_printing::line_end;
+use case_printing::marks;
+use case_printing::text;
+use demands::trial::Trial;
 use refusal::Refusal;
 use walsh::Character;
 ghost use Prim.Native.Nat.{_≤_};
 
-fn text(text: &[u8]) {
-    io::write_all(STDOUT_FILENO, text);
-}
-
-fn field(name: &[u8], number: u64) {
-    io::write_all(STDOUT_FILENO, name);
-    io::print_decimal(STDOUT_FILENO, number);
-}
-
 fn refused(refusal: Refusal) {
-    field(b" refused ", refusal.number as u64);
-    field(b" place ", refusal.place as u64);
-    field(b" lead ", refusal.lead as u64);
+    case_printing::refused(b" refused ", refusal);
 }
 
-fn kept(place: usize) {
-    field(b" kept from ", place as u64);
+fn marked_tones() -> [u16; 66] {
+    let mut tones = [0u16; 66];
+    marks::mark_tones(&mut tones);
+    tones
+}
+
+fn marked_codes() -> [u8; 10] {
+    let mut codes = [0u8; 10];
+    marks::mark_codes(&mut codes);
+    codes
 }
 
 fn tone(tone: u16) {
@@ -63,7 +64,7 @@ fn sent(encoded: Encoded, tones: &[u16; 66], shown: usize)
         Encoded::Tones(count) => accepted_tones(count, tones, shown),
         Encoded::Refused(refusal) => refused(refusal),
     }
-    kept(outputs::tones_kept(tones));
+    kept(marks::tones_kept(tones));
 }
 
 fn heard(decoded: BlockDecoded, codes: &[u8; 10]) {
@@ -73,47 +74,49 @@ fn heard(decoded: BlockDecoded, codes: &[u8; 10]) {
         Decoded::Text(count) => accepted_codes(count, codes, characters),
         Decoded::Refused(refusal) => refused(refusal),
     }
-    kept(outputs::codes_kept(codes));
+    kept(marks::codes_kept(codes));
 }
 
-fn encode_shown(name: &[u8], mode: u32, codes: &[u8], room: usize, shown: usize)
+pub fn encode(mode: u32, codes: &[u8], room: usize, shown: usize)
     requires { ⌜ (room ≤ 66) × (shown ≤ 66) ⌝ }
 {
-    let mut tones = outputs::tones();
-    let encoded = block::encode_block(mode, codes, &mut tones[0..room]);
-    text(name);
+    let mut tones = marked_tones();
+    let encoded = block_encoder::encode_block(mode, codes, &mut tones[0..room]);
     sent(encoded, &tones, shown);
-    text(b"\n");
+    line_end();
 }
 
-pub fn first_tones(name: &[u8], mode: u32, codes: &[u8], shown: usize)
-    requires { ⌜ shown ≤ 66 ⌝ }
-{
-    encode_shown(name, mode, codes, 66, shown);
-}
-
-pub fn encode(name: &[u8], mode: u32, codes: &[u8], room: usize)
-    requires { ⌜ room ≤ 66 ⌝ }
-{
-    encode_shown(name, mode, codes, room, 64);
-}
-
-pub fn decode(name: &[u8], mode: u32, least_lead: u32, tones: &[u16], room: usize)
+pub fn decode(mode: u32, least_lead: u32, tones: &[u16], room: usize)
     requires { ⌜ room ≤ 10 ⌝ }
 {
-    let mut codes = outputs::codes();
-    let decoded = block::decode_block(mode, least_lead, tones, &mut codes[0..room]);
-    text(name);
+    let mut codes = marked_codes();
+    let decoded = block_decoder::decode_block(mode, least_lead, tones, &mut codes[0..room]);
     heard(decoded, &codes);
-    text(b"\n");
+    line_end();
+}
+
+fn counts(replaced: usize, missing: usize) {
+    field(b", replaced ", replaced as u64);
+    field(b" missing ", missing as u64);
+    line_end();
+}
+
+fn tried(trial: Trial, tones: &[u16; 66], first: &[u8; 10], second: &[u8; 10]) {
+    let encoded = trial.encoded;
+    sent(encoded, tones, 8);
+    text(b", first");
+    heard(trial.first, first);
+    text(b", second");
+    heard(trial.second, second);
+    counts(trial.replaced, trial.missing);
 }
 
 // The three calls of a trial on one line, with r and u.
-pub fn trial(name: &[u8], least_lead: u32, code: u8, tones_heard: [u16; 64]) {
-    let mut tones = outputs::tones();
-    let mut first = outputs::codes();
-    let mut second = outputs::codes();
-    let trial = block::trial::run(
+pub fn trial(least_lead: u32, code: u8, tones_heard: [u16; 64]) {
+    let mut tones = marked_tones();
+    let mut first = marked_codes();
+    let mut second = marked_codes();
+    let trial = demands::trial::run(
         1,
         least_lead,
         &[code],
@@ -122,14 +125,5 @@ pub fn trial(name: &[u8], least_lead: u32, code: u8, tones_heard: [u16; 64]) {
         &mut first,
         &mut second,
     );
-    text(name);
-    let encoded = trial.encoded;
-    sent(encoded, &tones, 8);
-    text(b", first");
-    heard(trial.first, &first);
-    text(b", second");
-    heard(trial.second, &second);
-    field(b", replaced ", trial.replaced as u64);
-    field(b" missing ", trial.missing as u64);
-    text(b"\n");
+    tried(trial, &tones, &first, &second);
 }

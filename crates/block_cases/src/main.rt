@@ -1,9 +1,11 @@
 // Runs the entries of a block on document 01's bench sheet, cases 1 to 11, and on inputs that break several limits at once.
-use block::MISSING;
+use case_printing::field;
+use case_printing::text;
+use chain::MISSING;
+ghost use Prim.Native.Nat.{_≤_};
 
 mod heard;
 mod lines;
-mod outputs;
 
 fn main() {
     cases_1_to_4();
@@ -19,69 +21,170 @@ fn main() {
     trials();
 }
 
+// ---- the bench sheet
+
+fn number(case: u64) {
+    field(b"", case);
+}
+
+fn letter(case: u64, letter: u8) {
+    number(case);
+    text(&[letter]);
+}
+
+fn one_code(case: u64, code: u8) {
+    number(case);
+    lines::encode(1, &[code], 66, 8);
+}
+
 fn cases_1_to_4() {
-    lines::first_tones(b"1", 1, &[0], 8);
-    lines::first_tones(b"2", 1, &[64], 8);
-    lines::first_tones(b"3", 1, &[1], 8);
-    lines::first_tones(b"4", 2, &[0, 0], 6);
+    one_code(1, 0);
+    one_code(2, 64);
+    one_code(3, 1);
+    number(4);
+    lines::encode(2, &[0, 0], 66, 6);
 }
 
 // Character q of mode 3 has bit q of the first symbol, and the key's bits are 0, 1, 0 there: codes 0 0 0 send
 // symbol 2, codes 1 0 1 symbol 7. Tone 4 heard for tone 3 costs characters 0 and 2 a bit each.
 fn case_5() {
-    lines::first_tones(b"5a", 3, &[0, 0, 0], 1);
-    lines::first_tones(b"5b", 3, &[1, 0, 1], 1);
+    letter(5, b'a');
+    lines::encode(3, &[0, 0, 0], 66, 1);
+    letter(5, b'b');
+    lines::encode(3, &[1, 0, 1], 66, 1);
     let mut tones = heard::sent(3, &[0, 0, 0]);
     tones[0] = 4;
-    lines::decode(b"5c", 3, 60, &tones, 10);
+    letter(5, b'c');
+    lines::decode(3, 60, &tones, 10);
 }
 
-fn hear(name: &[u8], least_lead: u32, tones: [u16; 64]) {
-    lines::decode(name, 1, least_lead, &tones, 10);
+fn hear_turned(least_lead: u32, n: usize)
+    requires { ⌜ n ≤ 32 ⌝ }
+{
+    lines::decode(1, least_lead, &heard::turned(n), 10);
+}
+
+fn hear_missing(least_lead: u32, n: usize)
+    requires { ⌜ n ≤ 32 ⌝ }
+{
+    lines::decode(1, least_lead, &heard::missing(n), 10);
 }
 
 fn cases_6_to_11() {
-    hear(b"6", 64, heard::turned(0));
-    hear(b"7a", 4, heard::turned(15));
-    hear(b"7b", 5, heard::turned(15));
-    hear(b"8", 1, heard::turned(16));
-    hear(b"9a", 2, heard::missing(31));
-    hear(b"9b", 1, heard::missing(32));
-    hear(b"10", 64, heard::turned(32));
-    hear(b"11", 1, [MISSING; 64]);
+    number(6);
+    hear_turned(64, 0);
+    letter(7, b'a');
+    hear_turned(4, 15);
+    letter(7, b'b');
+    hear_turned(5, 15);
+    number(8);
+    hear_turned(1, 16);
+    letter(9, b'a');
+    hear_missing(2, 31);
+    letter(9, b'b');
+    hear_missing(1, 32);
+    number(10);
+    hear_turned(64, 32);
+    number(11);
+    lines::decode(1, 1, &[MISSING; 64], 10);
 }
 
-// Each line breaks its own limit and, where it can, those that are checked later.
+// ---- what is refused: each line breaks its own limit and, where it can, those that are checked later
+
+fn encode_mode(mode: u32) {
+    field(b"encode mode ", mode as u64);
+    lines::encode(mode, &[128], 63, 64);
+}
+
+fn encode_count(count: usize)
+    requires { ⌜ count ≤ 4 ⌝ }
+{
+    let codes = [128u8, 0, 0, 0];
+    field(b"encode ", count as u64);
+    text(b" codes");
+    lines::encode(3, &codes[0..count], 63, 64);
+}
+
+fn encode_room(room: usize, first: u8, second: u8)
+    requires { ⌜ room ≤ 66 ⌝ }
+{
+    field(b"encode room ", room as u64);
+    lines::encode(3, &[first, second, 0], room, 64);
+}
+
 fn encode_refused() {
-    lines::encode(b"encode mode 0", 0, &[128], 63);
-    lines::encode(b"encode mode 9", 9, &[128], 63);
-    lines::encode(b"encode mode 4294967295", 4294967295, &[128], 63);
-    lines::encode(b"encode 2 codes", 3, &[128, 0], 63);
-    lines::encode(b"encode 4 codes", 3, &[128, 0, 0, 0], 63);
-    lines::encode(b"encode room 63", 3, &[128, 0, 0], 63);
-    lines::encode(b"encode room 0", 3, &[128, 0, 0], 0);
-    lines::encode(b"encode codes 128", 4, &[5, 128, 0, 128], 64);
-    lines::encode(b"encode code 255", 4, &[127, 64, 63, 255], 64);
+    encode_mode(0);
+    encode_mode(9);
+    encode_mode(4294967295);
+    encode_count(2);
+    encode_count(4);
+    encode_room(63, 128, 0);
+    encode_room(0, 128, 0);
+    text(b"encode codes 128");
+    lines::encode(4, &[5, 128, 0, 128], 64, 64);
+    text(b"encode code 255");
+    lines::encode(4, &[127, 64, 63, 255], 64, 64);
 }
 
 fn encode_accepted() {
-    lines::encode(b"encode room 64", 3, &[127, 64, 0], 64);
-    lines::encode(b"encode room 66", 3, &[127, 64, 0], 66);
+    encode_room(64, 127, 64);
+    encode_room(66, 127, 64);
 }
 
-// As for encoding; 65534 is a tone of no mode.
-fn decode_refused() {
+// 65534 is a tone of no mode.
+fn decode_bad(mode: u32, least_lead: u32, count: usize, room: usize)
+    requires { ⌜ (count ≤ 65) × (room ≤ 10) ⌝ }
+{
     let tones = [65534u16; 65];
-    lines::decode(b"decode mode 0", 0, 0, &tones[..63], 0);
-    lines::decode(b"decode mode 9", 9, 0, &tones[..63], 0);
-    lines::decode(b"decode mode 4294967295", 4294967295, 0, &tones[..63], 0);
-    lines::decode(b"decode lead 0", 3, 0, &tones[..63], 2);
-    lines::decode(b"decode lead 65", 3, 65, &tones[..63], 2);
-    lines::decode(b"decode lead 4294967295", 3, 4294967295, &tones[..63], 2);
-    lines::decode(b"decode 0 tones", 3, 64, &tones[..0], 2);
-    lines::decode(b"decode 63 tones", 3, 64, &tones[..63], 2);
-    lines::decode(b"decode 65 tones", 3, 64, &tones, 2);
-    lines::decode(b"decode room 2", 3, 64, &tones[..64], 2);
+    lines::decode(mode, least_lead, &tones[0..count], room);
+}
+
+fn decode_mode(mode: u32) {
+    field(b"decode mode ", mode as u64);
+    decode_bad(mode, 0, 63, 0);
+}
+
+fn decode_lead(least_lead: u32) {
+    field(b"decode lead ", least_lead as u64);
+    decode_bad(3, least_lead, 63, 2);
+}
+
+fn decode_count(count: usize)
+    requires { ⌜ count ≤ 65 ⌝ }
+{
+    field(b"decode ", count as u64);
+    text(b" tones");
+    decode_bad(3, 64, count, 2);
+}
+
+fn decode_refused() {
+    decode_mode(0);
+    decode_mode(9);
+    decode_mode(4294967295);
+    decode_lead(0);
+    decode_lead(65);
+    decode_lead(4294967295);
+    decode_count(0);
+    decode_count(63);
+    decode_count(65);
+    text(b"decode room 2");
+    decode_bad(3, 64, 64, 2);
+}
+
+// ---- single tones
+
+fn hear_tone(tone: u16, mode: u32, tones: &[u16; 64], room: usize)
+    requires { ⌜ room ≤ 10 ⌝ }
+{
+    field(b"decode tone ", tone as u64);
+    lines::decode(mode, 64, tones, room);
+}
+
+fn hear_lead(least_lead: u32, tones: &[u16; 64], room: usize)
+    requires { ⌜ room ≤ 10 ⌝ }
+{
+    field(b"decode lead ", least_lead as u64);
+    lines::decode(3, least_lead, tones, room);
 }
 
 // A missing mark is no bad tone, but makes every character unclear at a set lead of 64.
@@ -89,42 +192,65 @@ fn bad_tones() {
     let mut tones = heard::sent(3, &[127, 64, 0]);
     tones[2] = MISSING;
     tones[63] = 65534;
-    lines::decode(b"decode tone 65534", 3, 64, &tones, 3);
+    hear_tone(65534, 3, &tones, 3);
     tones[40] = 8;
-    lines::decode(b"decode tone 8", 3, 64, &tones, 3);
+    hear_tone(8, 3, &tones, 3);
     tones[0] = 256;
-    lines::decode(b"decode tone 256", 8, 64, &tones, 10);
+    hear_tone(256, 8, &tones, 10);
 }
 
 // The first tone sent is 3, symbol 2. Tone 6 is symbol 4: characters 1 and 2 lose a bit each.
 fn unclear() {
     let mut tones = heard::sent(3, &[0, 0, 0]);
     tones[0] = 6;
-    lines::decode(b"decode lead 61", 3, 61, &tones, 3);
-    lines::decode(b"decode lead 60", 3, 60, &tones, 3);
+    hear_lead(61, &tones, 3);
+    hear_lead(60, &tones, 3);
 }
 
 fn missing_mark() {
     let mut tones = heard::sent(3, &[127, 64, 0]);
     tones[2] = MISSING;
-    lines::decode(b"decode lead 63", 3, 63, &tones, 3);
-    lines::decode(b"decode lead 62", 3, 62, &tones, 10);
+    hear_lead(63, &tones, 3);
+    hear_lead(62, &tones, 10);
+}
+
+// ---- eight codes
+
+fn decode_room(tones: &[u16; 64], room: usize)
+    requires { ⌜ room ≤ 10 ⌝ }
+{
+    field(b"decode room ", room as u64);
+    lines::decode(8, 64, tones, room);
 }
 
 fn eight_codes() {
     let codes = [0, 1, 63, 64, 65, 126, 127, 72];
-    lines::encode(b"encode mode 8", 8, &codes, 64);
-    lines::decode(b"decode room 7", 8, 64, &heard::sent(8, &codes), 7);
-    lines::decode(b"decode room 8", 8, 64, &heard::sent(8, &codes), 8);
-    lines::decode(b"decode room 10", 8, 64, &heard::sent(8, &codes), 10);
+    text(b"encode mode 8");
+    lines::encode(8, &codes, 64, 64);
+    let tones = heard::sent(8, &codes);
+    decode_room(&tones, 7);
+    decode_room(&tones, 8);
+    decode_room(&tones, 10);
 }
 
-// Cases 7 to 10 as trials of demand 3: on the first bound, past it, on the second bound's far side, and with missing tones.
-// A code that is refused puts nothing on the air.
+// ---- trials of demand 3
+
+fn try_turned(least_lead: u32, n: usize)
+    requires { ⌜ n ≤ 32 ⌝ }
+{
+    field(b"trial ", n as u64);
+    text(b" replaced");
+    lines::trial(least_lead, 0, heard::turned(n));
+}
+
+// Cases 7 to 10: on the first bound, past it, on the second bound's far side, and with missing tones. A code that is refused
+// puts nothing on the air.
 fn trials() {
-    lines::trial(b"trial 15 replaced", 4, 0, heard::turned(15));
-    lines::trial(b"trial 16 replaced", 1, 0, heard::turned(16));
-    lines::trial(b"trial 32 replaced", 64, 0, heard::turned(32));
-    lines::trial(b"trial 31 missing", 2, 0, heard::missing(31));
-    lines::trial(b"trial code 128", 4, 128, heard::missing(1));
+    try_turned(4, 15);
+    try_turned(1, 16);
+    try_turned(64, 32);
+    text(b"trial 31 missing");
+    lines::trial(2, 0, heard::missing(31));
+    text(b"trial code 128");
+    lines::trial(4, 128, heard::missing(1));
 }

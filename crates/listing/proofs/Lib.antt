@@ -1,13 +1,2 @@
-pub mod Digits
-pub mod Decimals
-pub mod TextBounds
-pub mod Elements
-pub mod Pasting
-pub mod ReaderCases
-pub mod WordReading
-pub mod LineReading
 pub mod StageCases
 pub mod Tellings
-pub mod Pieces
-pub mod Listings
-pub mod Computed

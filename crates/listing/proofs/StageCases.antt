@@ -1,27 +1,23 @@
 -- What is said of a line, by what was read: an equation for each answer.
-use mathlib.Core.Path.{_≡_, refl}
+use mathlib.Core.Path.{_≡_}
 use mathlib.Core.Bool.{true, false, _&&_}
 use mathlib.Core.List.{List, []}
 use Prim.Native.Nat.{ℕ, _+_, _%_, _^_}
 use borrow.Author.Tests.{eq-eqb, ne-eqb}
 use lib.Dec.{eqb}
 use lib.ListN.{take}
+use Rattle.lists.specs.Lists.{num}
+use Rattle.text.specs.Ascii.{lineFeed}
+use Rattle.reader.specs.declared.Line.{Line}
+use Rattle.reader.specs.Reader.{isEmpty, isBlank, nextTones, lineEnd, endTones}
 use Rattle.refusal.specs.Checks.{isMode, isLead}
 use Rattle.refusal.specs.Refused.{refusedAt}
-use Rattle.refusal.specs.declared.Refusal.{Refusal}
-use Rattle.walsh.specs.declared.Character.{Character}
-use Rattle.block.specs.Lists.{num}
-use Rattle.block.specs.Decoding.{decodeBlock}
-use Rattle.block.specs.declared.Decoded.{Decoded}
-use Rattle.block.specs.declared.Decoded.the-variants.{Text, Refused}
-use Rattle.block.specs.declared.BlockDecoded.{BlockDecoded}
-use Rattle.listing.specs.declared.Line.{Line}
+use Rattle.block_decoder.specs.Decoding.{decodeBlock}
+use Rattle.block_decoder.specs.declared.BlockDecoded.{BlockDecoded}
 use Rattle.listing.specs.declared.Listing.{Listing}
 use Rattle.listing.specs.declared.Stage.the-variants.{Settings, Blocks, Stopped}
-use Rattle.listing.specs.Input.{lineFeed}
-use Rattle.listing.specs.Output.{answerText, goesOn, charactersText, unclearText, refusedText, unreadableText}
-use Rattle.listing.specs.Reader.{isEmpty, isBlank, nextTones, lineEnd, endTones}
-use Rattle.listing.specs.Stages.{hearing, stops, checkedSaid, settingsSaid, answerSaid, decodedSaid, blockSaid, judged, closed, withinLine, stepped, steppedTones, lastLine}
+use Rattle.report.specs.Output.{blockText, refusedText, unreadableText}
+use Rattle.listing.specs.Stages.{hearing, stops, checkedSaid, settingsSaid, decodedSaid, blockSaid, judged, closed, withinLine, stepped, steppedTones, lastLine, goesOn}
 
 module _ (b m : ℕ) where
   pub says-mode : isMode b ≡ false → checkedSaid b m ≡ stops (refusedText (refusedAt 1 0))
@@ -50,33 +46,19 @@ module _ (line : Line) (tones : List ℕ) where
     unfolding blockSaid
     says-unreadable e = rw e
 
-    pub says-decoded : isEmpty (line .word) ≡ true → blockSaid b m k line tones ≡ decodedSaid b m k (decodeBlock b m (take (line .count) tones) 8)
+    pub says-decoded : {d : BlockDecoded} → isEmpty (line .word) ≡ true → d ≡ decodeBlock b m (take (line .count) tones) 8
+        → blockSaid b m k line tones ≡ decodedSaid b m k d
     unfolding blockSaid
-    says-decoded e = rw e
+    says-decoded e h = rw (e, h)
 
-module _ (b m k : ℕ) (characters : List Character) where
-  pub says-text : (n : ℕ) → answerSaid b m k (Text n) characters ≡ record { text = charactersText k characters n; next = hearing b m ((k + 1) % 2 ^ 64) }
-  unfolding answerSaid answerText goesOn
-  says-text n = refl
+module _ (b m k : ℕ) (d : BlockDecoded) where
+  pub says-on : goesOn (d .answer) ≡ true → decodedSaid b m k d ≡ record { text = blockText k d; next = hearing b m ((k + 1) % 2 ^ 64) }
+  unfolding decodedSaid
+  says-on e = rw e
 
-  module _ (r : Refusal) where
-    pub says-unclear : r .number ≡ 10 → answerSaid b m k (Refused r) characters ≡ record { text = unclearText k r; next = hearing b m ((k + 1) % 2 ^ 64) }
-    unfolding answerSaid answerText goesOn
-    says-unclear e = simp (eq-eqb (r .number) 10 e)
-
-    pub says-refused : (r .number ≡ 10 → ⊥) → answerSaid b m k (Refused r) characters ≡ stops (refusedText r)
-    unfolding answerSaid answerText goesOn
-    says-refused e = simp (ne-eqb (r .number) 10 e)
-
-    -- a refusal says nothing of characters
-    pub says-without : answerSaid b m k (Refused r) characters ≡ answerSaid b m k (Refused r) []
-    unfolding answerSaid answerText goesOn
-    says-without = refl
-
--- the answer of a decision, by its case
-pub says-answer : (b m k : ℕ) (d : BlockDecoded) {answer : Decoded} → d .answer ≡ answer → decodedSaid b m k d ≡ answerSaid b m k answer (d .characters)
-unfolding decodedSaid
-says-answer b m k d e = rw e
+  pub says-last : goesOn (d .answer) ≡ false → decodedSaid b m k d ≡ stops (blockText k d)
+  unfolding decodedSaid
+  says-last e = rw e
 
 module _ (listing : Listing) (tones : List ℕ) where
   pub closes-settings : listing .stage ≡ Settings → closed listing tones ≡ settingsSaid (lineEnd (listing .line)) (endTones (listing .line) tones)

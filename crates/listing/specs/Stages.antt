@@ -3,22 +3,22 @@ use mathlib.Core.Bool.{Bool, false, true, cond, not, _&&_}
 use mathlib.Core.List.{List, [], _∷_, _++_}
 use Prim.Native.Nat.{ℕ, _+_, _%_, _^_}
 use lib.Dec.{eqb}
-use lib.ListN.{length, take, drop}
+use lib.ListN.{length, take}
+use Rattle.lists.specs.Lists.{num}
+use Rattle.text.specs.Ascii.{lineFeed}
+use Rattle.reader.specs.declared.Line.{Line}
+use Rattle.reader.specs.Reader.{fresh, isRead, isBlank, nextLine, nextTones, lineEnd, endTones}
 use Rattle.refusal.specs.Checks.{isMode, isLead}
 use Rattle.refusal.specs.Refused.{refusedAt}
-use Rattle.block.specs.Lists.{num}
-use Rattle.block.specs.Decoding.{decodeBlock}
-use Rattle.walsh.specs.declared.Character.{Character}
-use Rattle.block.specs.declared.Decoded.{Decoded}
-use Rattle.block.specs.declared.BlockDecoded.{BlockDecoded}
-use Rattle.listing.specs.declared.Line.{Line}
+use Rattle.block_decoder.specs.Decoding.{decodeBlock}
+use Rattle.block_decoder.specs.declared.Decoded.{Decoded}
+use Rattle.block_decoder.specs.declared.Decoded.the-variants.{Text, Refused}
+use Rattle.block_decoder.specs.declared.BlockDecoded.{BlockDecoded}
 use Rattle.listing.specs.declared.Stage.{Stage}
 use Rattle.listing.specs.declared.Stage.the-variants.{Settings, Blocks, Stopped}
 use Rattle.listing.specs.declared.Listing.{Listing}
 use Rattle.listing.specs.declared.Progress.{Progress}
-use Rattle.listing.specs.Input.{lineFeed}
-use Rattle.listing.specs.Output.{answerText, goesOn, refusedText, unreadableText, endText}
-use Rattle.listing.specs.Reader.{fresh, isRead, isBlank, nextLine, nextTones, lineEnd, endTones}
+use Rattle.report.specs.Output.{blockText, refusedText, unreadableText, endText}
 
 -- what is printed, and the state after it
 pub record Said : Type 0 where
@@ -28,10 +28,6 @@ pub record Said : Type 0 where
 -- what an entry answers of it
 abbrev pub told : Said → Progress
 told s = record { listing = s .next; written = length (s .text) }
-
--- an output with a text at place at, over what stood there
-unfoldable pub pasted : ℕ → List ℕ → List ℕ → List ℕ
-pasted at text out = take at out ++ text ++ drop (at + length text) out
 
 -- ---- states
 
@@ -73,14 +69,13 @@ unfoldable pub settingsSaid : Line → List ℕ → Said
 settingsSaid line tones =
     cond (isRead line && eqb (line .count) 2) (checkedSaid (num tones 0) (num tones 1)) (stops (unreadableText 1))
 
-unfoldable pub answerSaid : ℕ → ℕ → ℕ → Decoded → List Character → Said
-answerSaid b m k answer characters =
-    cond (goesOn answer)
-    (record { text = answerText k answer characters; next = hearing b m ((k + 1) % 2 ^ 64) })
-    (stops (answerText k answer characters))
+-- any refusal but 10 stops the listing
+abbrev pub goesOn : Decoded → Bool
+goesOn (Text n) = true
+goesOn (Refused r) = eqb (r .number) 10
 
 unfoldable pub decodedSaid : ℕ → ℕ → ℕ → BlockDecoded → Said
-decodedSaid b m k d = answerSaid b m k (d .answer) (d .characters)
+decodedSaid b m k d = cond (goesOn (d .answer)) (record { text = blockText k d; next = hearing b m ((k + 1) % 2 ^ 64) }) (stops (blockText k d))
 
 -- readability of the whole line is judged first; counts go round at 2^64
 unfoldable pub blockSaid : ℕ → ℕ → ℕ → Line → List ℕ → Said

@@ -1,100 +1,93 @@
 // A line that was read to its end: what is printed of it, and how the listing goes on.
-use super::Line;
 use super::Listing;
 use super::Progress;
-use super::ROOM;
 use super::Stage;
-use super::TONES;
-use super::reader;
-use super::report;
-use block::BlockDecoded;
-use block::Decoded;
+use block_decoder::BlockDecoded;
+use block_decoder::Decoded;
+use reader::Line;
+use reader::TONES;
+use reader::Word;
 use refusal::Refusal;
 use refusal::checks;
+use report::ROOM;
 ghost use mathlib.Core.Path.{_≡_};
-ghost use mathlib.Core.List.{[]};
+ghost use mathlib.Core.Bool.{_&&_};
 ghost use Prim.Native.Nat.{_≤_};
 ghost use lib.ListN.{length, take};
-ghost use Rattle.block.specs.Decoding.{decodeBlock};
-ghost use Rattle.block.specs.declared.Decoded.the-variants.{Refused};
-ghost use Rattle.listing.specs.Reader.{endTones};
-ghost use Rattle.listing.specs.Stages.{told, pasted, hearing, stopped, checkedSaid, settingsSaid, answerSaid, blockSaid, closed};
+ghost use lib.Dec.{eqb};
+ghost use Rattle.lists.specs.Lists.{over};
+ghost use Rattle.refusal.specs.Refused.{refusedAt};
+ghost use Rattle.reader.specs.Reader.{isRead, endTones};
+ghost use Rattle.report.specs.Output.{refusedText};
+ghost use Rattle.block_decoder.specs.Decoding.{decodeBlock};
+ghost use Rattle.listing.specs.Stages.{told, hearing, stopped, stops, checkedSaid, settingsSaid, decodedSaid, blockSaid, closed, goesOn};
 
 // The end of a line.
 pub fn close(listing: Listing, tones: &mut [u16; TONES], out: &mut [u8; ROOM]) -> Progress
     ensures answer { λ r. ⌜ r ≡ told (closed listing (now (tones .entry))) ⌝ }
     ensures kept { λ _. ⌜ now (tones .exit) ≡ endTones (listing .line) (now (tones .entry)) ⌝ }
-    ensures output { λ _. ⌜ now (out .exit) ≡ pasted 0 (closed listing (now (tones .entry)) .text) (now (out .entry)) ⌝ }
+    ensures output { λ _. ⌜ now (out .exit) ≡ over (closed listing (now (tones .entry)) .text) (now (out .entry)) ⌝ }
 {
     let begun = listing.line;
     let line = reader::end_line(begun, tones);
     let stage = listing.stage;
     match stage {
         Stage::Settings => take_settings(line, tones, out),
-        Stage::Blocks => take_block(
-            listing.mode,
-            listing.least_lead,
-            listing.blocks,
-            line,
-            tones,
-            out,
-        ),
+        Stage::Blocks => take_block(listing, line, tones, out),
         Stage::Stopped => stopped(0),
     }
 }
 
 fn take_settings(line: Line, tones: &[u16; TONES], out: &mut [u8; ROOM]) -> Progress
     ensures answer { λ r. ⌜ r ≡ told (settingsSaid line (now (tones .entry))) ⌝ }
-    ensures output { λ _. ⌜ now (out .exit) ≡ pasted 0 (settingsSaid line (now (tones .entry)) .text) (now (out .entry)) ⌝ }
+    ensures output { λ _. ⌜ now (out .exit) ≡ over (settingsSaid line (now (tones .entry)) .text) (now (out .entry)) ⌝ }
 {
-    if !reader::is_pair(line) {
+    if !is_pair(line) {
         return stopped(report::put_unreadable(1, out));
     }
     check_settings(tones[0], tones[1], out)
 }
 
+// Of a line that ended: it has two words, and each was read.
+fn is_pair(line: Line) -> bool
+    ensures { λ r. ⌜ r ≡ (isRead line && eqb (line .count) 2) ⌝ }
+{
+    reader::is_readable(line) && line.count == 2
+}
+
 fn check_settings(mode: u16, least_lead: u16, out: &mut [u8; ROOM]) -> Progress
     ensures answer { λ r. ⌜ r ≡ told (checkedSaid mode «least_lead») ⌝ }
-    ensures output { λ _. ⌜ now (out .exit) ≡ pasted 0 (checkedSaid mode «least_lead» .text) (now (out .entry)) ⌝ }
+    ensures output { λ _. ⌜ now (out .exit) ≡ over (checkedSaid mode «least_lead» .text) (now (out .entry)) ⌝ }
 {
     if !checks::is_mode(mode as u32) {
-        return stopped(report::put_refused(Refusal::at(refusal::MODE, 0), out));
+        return refuse(refusal::MODE, out);
     }
     if !checks::is_lead(least_lead as u32) {
-        return stopped(report::put_refused(Refusal::at(refusal::LEAST_LEAD, 0), out));
+        return refuse(refusal::LEAST_LEAD, out);
     }
     hearing(mode as u32, least_lead as u32, 0, 0)
 }
 
+fn refuse(number: u8, out: &mut [u8; ROOM]) -> Progress
+    ensures answer { λ r. ⌜ r ≡ told (stops (refusedText (refusedAt number 0))) ⌝ }
+    ensures output { λ _. ⌜ now (out .exit) ≡ over (refusedText (refusedAt number 0)) (now (out .entry)) ⌝ }
+{
+    stopped(report::put_refused(Refusal::at(number, 0), out))
+}
+
 // A line is judged as a whole before its tones are.
-fn take_block(
-    mode: u32,
-    least_lead: u32,
-    blocks: u64,
-    line: Line,
-    tones: &[u16; TONES],
-    out: &mut [u8; ROOM],
-) -> Progress
-    ensures answer { λ r. ⌜ r ≡ told (blockSaid mode «least_lead» blocks line (now (tones .entry))) ⌝ }
-    ensures output { λ _. ⌜ now (out .exit) ≡ pasted 0 (blockSaid mode «least_lead» blocks line (now (tones .entry)) .text) (now (out .entry)) ⌝ }
+fn take_block(listing: Listing, line: Line, tones: &[u16; TONES], out: &mut [u8; ROOM]) -> Progress
+    ensures answer { λ r. ⌜ r ≡ told (blockSaid (listing .mode) (listing .«least_lead») (listing .blocks) line (now (tones .entry))) ⌝ }
+    ensures output { λ _. ⌜ now (out .exit) ≡ over (blockSaid (listing .mode) (listing .«least_lead») (listing .blocks) line (now (tones .entry)) .text) (now (out .entry)) ⌝ }
 {
     if !reader::is_readable(line) {
-        return stopped(report::put_unreadable(std::num::wrapping_add_u64(blocks, 2), out));
+        return stopped(report::put_unreadable(std::num::wrapping_add_u64(listing.blocks, 2), out));
     }
-    let decoded = decide(mode, least_lead, line.count, tones);
-    let answer = decoded.answer;
-    match answer {
-        Decoded::Text(n) => {
-            let characters = decoded.characters;
-            hearing(
-                mode,
-                least_lead,
-                std::num::wrapping_add_u64(blocks, 1),
-                report::put_characters(blocks, n, characters, out),
-            )
-        }
-        Decoded::Refused(refusal) => take_refusal(mode, least_lead, blocks, refusal, out),
-    }
+    take_answer(
+        listing,
+        decide(listing.mode, listing.least_lead, line.count, tones),
+        out,
+    )
 }
 
 // What the first count tones are heard as, with room for any block's codes.
@@ -103,42 +96,51 @@ fn decide(mode: u32, least_lead: u32, count: u8, tones: &[u16]) -> BlockDecoded
     ensures { λ r. ⌜ r ≡ decodeBlock mode «least_lead» (take count (now (tones .entry))) 8 ⌝ }
 {
     let end = count as usize;
-    block::decide_block(mode, least_lead, &tones[..end], 8)
+    block_decoder::decide_block(mode, least_lead, &tones[..end], 8)
+}
+
+fn take_answer(listing: Listing, decoded: BlockDecoded, out: &mut [u8; ROOM]) -> Progress
+    ensures answer { λ r. ⌜ r ≡ told (decodedSaid (listing .mode) (listing .«least_lead») (listing .blocks) decoded) ⌝ }
+    ensures output { λ _. ⌜ now (out .exit) ≡ over (decodedSaid (listing .mode) (listing .«least_lead») (listing .blocks) decoded .text) (now (out .entry)) ⌝ }
+{
+    let written = report::put_block(listing.blocks, decoded, out);
+    let answer = decoded.answer;
+    if !goes_on(answer) {
+        return stopped(written);
+    }
+    hearing(
+        listing.mode,
+        listing.least_lead,
+        std::num::wrapping_add_u64(listing.blocks, 1),
+        written,
+    )
 }
 
 // An unclear block is listed; any other refusal is the end.
-fn take_refusal(
-    mode: u32,
-    least_lead: u32,
-    blocks: u64,
-    refusal: Refusal,
-    out: &mut [u8; ROOM],
-) -> Progress
-    ensures answer { λ r. ⌜ r ≡ told (answerSaid mode «least_lead» blocks (Refused refusal) []) ⌝ }
-    ensures output { λ _. ⌜ now (out .exit) ≡ pasted 0 (answerSaid mode «least_lead» blocks (Refused refusal) [] .text) (now (out .entry)) ⌝ }
+fn goes_on(answer: Decoded) -> bool
+    ensures { λ r. ⌜ r ≡ goesOn answer ⌝ }
 {
-    if refusal.number == refusal::UNCLEAR {
-        return hearing(
-            mode,
-            least_lead,
-            std::num::wrapping_add_u64(blocks, 1),
-            report::put_unclear(blocks, refusal, out),
-        );
+    match answer {
+        Decoded::Text(_) => true,
+        Decoded::Refused(refusal) => refusal.number == refusal::UNCLEAR,
     }
-    stopped(report::put_refused(refusal, out))
 }
 
 // The state before the line of a block.
 fn hearing(mode: u32, least_lead: u32, blocks: u64, written: usize) -> Progress
     ensures { λ r. ⌜ r ≡ record { listing = hearing mode «least_lead» blocks; written = written } ⌝ }
 {
+    let line = Line {
+        word: Word::Empty,
+        count: 0,
+    };
     Progress {
         listing: Listing {
             stage: Stage::Blocks,
             mode,
             least_lead,
             blocks,
-            line: reader::fresh(),
+            line,
         },
         written,
     }
@@ -147,13 +149,17 @@ fn hearing(mode: u32, least_lead: u32, blocks: u64, written: usize) -> Progress
 fn stopped(written: usize) -> Progress
     ensures { λ r. ⌜ r ≡ record { listing = stopped; written = written } ⌝ }
 {
+    let line = Line {
+        word: Word::Empty,
+        count: 0,
+    };
     Progress {
         listing: Listing {
             stage: Stage::Stopped,
             mode: 0,
             least_lead: 0,
             blocks: 0,
-            line: reader::fresh(),
+            line,
         },
         written,
     }

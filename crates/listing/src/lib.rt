@@ -1,40 +1,17 @@
 // The listing of decoded blocks, from the bytes of the input to the bytes printed: document 01, "The listing program".
+use reader::Line;
+use reader::TONES;
+use reader::Word;
+use report::ROOM;
+use text::LINE_FEED;
 ghost use mathlib.Core.Path.{_≡_};
 ghost use lib.ListN.{length};
-ghost use Rattle.listing.specs.Output.{heading};
-ghost use Rattle.listing.specs.Stages.{told, pasted, begun, isStopped, takesMarks, stepped, steppedTones, lastLine, endingText};
-ghost use Rattle.listing.specs.Reader.{endTones};
+ghost use Rattle.lists.specs.Lists.{over};
+ghost use Rattle.reader.specs.Reader.{endTones};
+ghost use Rattle.report.specs.Output.{heading};
+ghost use Rattle.listing.specs.Stages.{told, begun, isStopped, takesMarks, stepped, steppedTones, lastLine, endingText};
 
 mod judge;
-pub mod laws;
-mod reader;
-mod report;
-mod text;
-
-// What parts the fields of a line, and the lines.
-const SPACE: u8 = b' ';
-
-const LINE_FEED: u8 = b'\n';
-
-// The bytes that a text has room for: eight lines of four numbers take 672 at most, and no other line more.
-pub const ROOM: usize = 1024;
-
-// The tones of a line that are kept, one for each count: more than a block has, so that a longer line is seen to be one.
-pub const TONES: usize = 256;
-
-// What was read of a word: nothing yet, a number, the mark of a missing tone, or what is no word, here or earlier in the line.
-pub enum Word {
-    Empty,
-    Number(u16),
-    Missing,
-    Unreadable,
-}
-
-// What was read of a line: the word that has not ended, and the count of those that have. It stops at 255.
-pub struct Line {
-    pub word: Word,
-    pub count: u8,
-}
 
 // What is read: the line of mode and set lead, the lines of blocks, or nothing more.
 pub enum Stage {
@@ -61,16 +38,20 @@ pub struct Progress {
 // The listing before the first byte, and the heading.
 pub fn begin(out: &mut [u8; ROOM]) -> Progress
     ensures answer { λ r. ⌜ r ≡ told (record { text = heading; next = begun }) ⌝ }
-    ensures output { λ _. ⌜ now (out .exit) ≡ pasted 0 heading (now (out .entry)) ⌝ }
+    ensures output { λ _. ⌜ now (out .exit) ≡ over heading (now (out .entry)) ⌝ }
 {
-    let written = text::put_text(b"BLOCK CHAR CODE LEAD\n", 0, out);
+    let written = report::put_heading(out);
+    let line = Line {
+        word: Word::Empty,
+        count: 0,
+    };
     Progress {
         listing: Listing {
             stage: Stage::Settings,
             mode: 0,
             least_lead: 0,
             blocks: 0,
-            line: reader::fresh(),
+            line,
         },
         written,
     }
@@ -80,7 +61,7 @@ pub fn begin(out: &mut [u8; ROOM]) -> Progress
 pub fn step(listing: Listing, byte: u8, tones: &mut [u16; TONES], out: &mut [u8; ROOM]) -> Progress
     ensures answer { λ r. ⌜ r ≡ told (stepped listing byte (now (tones .entry))) ⌝ }
     ensures kept { λ _. ⌜ now (tones .exit) ≡ steppedTones listing byte (now (tones .entry)) ⌝ }
-    ensures output { λ _. ⌜ now (out .exit) ≡ pasted 0 (stepped listing byte (now (tones .entry)) .text) (now (out .entry)) ⌝ }
+    ensures output { λ _. ⌜ now (out .exit) ≡ over (stepped listing byte (now (tones .entry)) .text) (now (out .entry)) ⌝ }
 {
     if byte == LINE_FEED {
         return judge::close(listing, tones, out);
@@ -104,7 +85,7 @@ pub fn step(listing: Listing, byte: u8, tones: &mut [u16; TONES], out: &mut [u8;
 pub fn last_line(listing: Listing, tones: &mut [u16; TONES], out: &mut [u8; ROOM]) -> Progress
     ensures answer { λ r. ⌜ r ≡ told (lastLine listing (now (tones .entry))) ⌝ }
     ensures kept { λ _. ⌜ now (tones .exit) ≡ endTones (listing .line) (now (tones .entry)) ⌝ }
-    ensures output { λ _. ⌜ now (out .exit) ≡ pasted 0 (lastLine listing (now (tones .entry)) .text) (now (out .entry)) ⌝ }
+    ensures output { λ _. ⌜ now (out .exit) ≡ over (lastLine listing (now (tones .entry)) .text) (now (out .entry)) ⌝ }
 {
     let line = listing.line;
     if reader::is_blank(line) {
@@ -119,10 +100,14 @@ pub fn last_line(listing: Listing, tones: &mut [u16; TONES], out: &mut [u8; ROOM
 // The text after the last line.
 pub fn finish(listing: Listing, out: &mut [u8; ROOM]) -> usize
     ensures answer { λ r. ⌜ r ≡ length (endingText (listing .stage) (listing .blocks)) ⌝ }
-    ensures output { λ _. ⌜ now (out .exit) ≡ pasted 0 (endingText (listing .stage) (listing .blocks)) (now (out .entry)) ⌝ }
+    ensures output { λ _. ⌜ now (out .exit) ≡ over (endingText (listing .stage) (listing .blocks)) (now (out .entry)) ⌝ }
 {
     let stage = listing.stage;
-    report::put_ending(stage, listing.blocks, out)
+    match stage {
+        Stage::Settings => report::put_unreadable(1, out),
+        Stage::Blocks => report::put_end(listing.blocks, out),
+        Stage::Stopped => 0,
+    }
 }
 
 // Nothing more will be written, whatever follows.

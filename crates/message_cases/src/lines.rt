@@ -1,31 +1,21 @@
 // A call of an entry and its line: what it is given, the answer, and the place from which on the output is as before the call.
-use super::outputs;
 use super::texts;
-use block::Decoded;
-use block::Encoded;
-use libc::STDOUT_FILENO;
+use block_decoder::Decoded;
+use block_encoder::Encoded;
+use case_printing::field;
+use case_printing::line_end;
+use case_printing::marks;
 use refusal::Refusal;
 ghost use Prim.Native.Nat.{_≤_};
 ghost use lib.ListN.{length};
 
-pub fn text(text: &[u8]) {
-    io::write_all(STDOUT_FILENO, text);
-}
-
-fn field(name: &[u8], number: u64) {
-    text(name);
-    io::print_decimal(STDOUT_FILENO, number);
-}
-
 fn refused(refusal: Refusal) {
-    field(b": refused ", refusal.number as u64);
-    field(b" place ", refusal.place as u64);
-    field(b" lead ", refusal.lead as u64);
+    case_printing::refused(b": refused ", refusal);
 }
 
 fn kept(place: usize) {
-    field(b" kept from ", place as u64);
-    text(b"\n");
+    case_printing::kept(place);
+    line_end();
 }
 
 fn added(sum: u32, tone: u16) -> u32 {
@@ -82,9 +72,9 @@ fn decoding(mode: u32, least_lead: u32, tones: usize, room: usize) {
 pub fn encode(mode: u32, codes: &[u8], tones: &mut [u16]) -> usize
     ensures { λ r. ⌜ r ≤ length (now (tones .entry)) ⌝ }
 {
-    outputs::mark_tones(tones);
-    let encoded = message::encode_message(mode, codes, tones);
-    let written = outputs::tones_kept(tones);
+    marks::mark_tones(tones);
+    let encoded = message_encoder::encode_message(mode, codes, tones);
+    let written = marks::tones_kept(tones);
     encoding(mode, codes.len(), tones.len());
     sent(encoded, &tones[0..written]);
     kept(written);
@@ -92,9 +82,9 @@ pub fn encode(mode: u32, codes: &[u8], tones: &mut [u16]) -> usize
 }
 
 pub fn decode(mode: u32, least_lead: u32, tones: &[u16], codes: &mut [u8]) {
-    outputs::mark_codes(codes);
-    let decoded = message::decode_message(mode, least_lead, tones, codes);
+    marks::mark_codes(codes);
+    let decoded = message_decoder::decode_message(mode, least_lead, tones, codes);
     decoding(mode, least_lead, tones.len(), codes.len());
     heard(decoded, codes);
-    kept(outputs::codes_kept(codes));
+    kept(marks::codes_kept(codes));
 }

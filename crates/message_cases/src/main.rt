@@ -1,11 +1,11 @@
 // Runs the entries of a message on document 01's cases 13 and 14, there and back at every mode, and on inputs that break
 // several limits at once.
-use block::MISSING;
+use case_printing::text;
+use chain::MISSING;
 ghost use Prim.Native.Nat.{_≤_};
 ghost use lib.ListN.{length};
 
 mod lines;
-mod outputs;
 mod texts;
 
 fn main() {
@@ -24,13 +24,13 @@ fn main() {
 
 // The last block of the text is 8 0 0.
 fn case_13() {
-    lines::text(b"case 13\n");
+    text(b"case 13\n");
     back(3, 1024);
     replaced(3, &[8, 9, 0], 21824);
 }
 
 fn case_14() {
-    lines::text(b"case 14\n");
+    text(b"case 14\n");
     all_zero(1);
     all_zero(2);
     all_zero(3);
@@ -43,7 +43,7 @@ fn case_14() {
 }
 
 fn there_and_back() {
-    lines::text(b"there and back\n");
+    text(b"there and back\n");
     every_count(1);
     every_count(2);
     every_count(3);
@@ -56,7 +56,7 @@ fn there_and_back() {
 
 // Each line breaks its own limit and, where it can, those that are checked later.
 fn encode_refused() {
-    lines::text(b"encode refused\n");
+    text(b"encode refused\n");
     too_many_codes(0);
     too_many_codes(9);
     too_many_codes(4294967295);
@@ -66,7 +66,7 @@ fn encode_refused() {
 }
 
 fn bad_codes() {
-    lines::text(b"bad codes\n");
+    text(b"bad codes\n");
     four_codes([5, 0, 128, 0]);
     four_codes([5, 128, 0, 128]);
     four_codes([127, 64, 1, 0]);
@@ -76,7 +76,7 @@ fn bad_codes() {
 
 // As for encoding.
 fn decode_refused() {
-    lines::text(b"decode refused\n");
+    text(b"decode refused\n");
     no_tones(0, 0, 63, 0);
     no_tones(9, 0, 63, 0);
     no_tones(4294967295, 0, 63, 0);
@@ -88,7 +88,7 @@ fn decode_refused() {
 }
 
 fn longest_messages() {
-    lines::text(b"longest messages\n");
+    text(b"longest messages\n");
     longest(1, 1024, 1024);
     longest(2, 512, 1024);
     longest(3, 342, 1026);
@@ -101,7 +101,7 @@ fn longest_messages() {
 
 // Blocks 1 and 2 are unclear at a set lead of 64, which is checked later.
 fn bad_tones() {
-    lines::text(b"bad tones\n");
+    text(b"bad tones\n");
     let mut tones = damaged();
     tones[191] = 65534;
     hear(64, &tones);
@@ -110,7 +110,7 @@ fn bad_tones() {
 }
 
 fn unclear() {
-    lines::text(b"unclear\n");
+    text(b"unclear\n");
     let mut tones = damaged();
     hear(63, &tones);
     hear(61, &tones);
@@ -124,7 +124,7 @@ fn unclear() {
 
 // A 0 before the last nonzero code, also where an all-zero block follows; as many from n on as a block has, and fewer.
 fn zeros() {
-    lines::text(b"zeros\n");
+    text(b"zeros\n");
     two_blocks(3, [1, 0, 3, 4, 0, 6]);
     two_blocks(3, [1, 2, 3, 4, 0, 6]);
     two_blocks(3, [0, 2, 3, 0, 0, 0]);
@@ -136,7 +136,7 @@ fn zeros() {
 
 // 1,026 codes; a 0 among them, which is told first; an all-zero last block; at modes 5 and 7 every code of the last block.
 fn too_long() {
-    lines::text(b"too long\n");
+    text(b"too long\n");
     replaced(3, &[8, 9, 10], 21824);
     replaced(3, &[8, 0, 10], 21824);
     replaced(3, &[0, 0, 0], 21824);
@@ -168,7 +168,7 @@ fn back(mode: u32, count: usize)
 fn put(mode: u32, codes: &[u8], at: usize, tones: &mut [u16])
     requires { ⌜ at ≤ length (now tones) ⌝ }
 {
-    block::encode_block(mode, codes, &mut tones[at..]);
+    block_encoder::encode_block(mode, codes, &mut tones[at..]);
 }
 
 fn all_zero(mode: u32)
@@ -176,7 +176,7 @@ fn all_zero(mode: u32)
 {
     let codes = [0u8; 8];
     let mut tones = [0u16; 64];
-    block::encode_block(mode, &codes[0..mode as usize], &mut tones);
+    block_encoder::encode_block(mode, &codes[0..mode as usize], &mut tones);
     lines::decode(mode, 64, &tones, &mut [0; 9]);
 }
 
@@ -208,7 +208,7 @@ fn replaced(mode: u32, codes: &[u8], last: usize)
 {
     let text = texts::text();
     let mut tones = [0u16; 65600];
-    message::encode_message(mode, &text[0..1024], &mut tones);
+    message_encoder::encode_message(mode, &text[0..1024], &mut tones);
     put(mode, codes, last, &mut tones);
     lines::decode(mode, 64, &tones[0..last + 64], &mut [0; 1040]);
 }

@@ -8,26 +8,30 @@ use native.Mathlib.Omega.{arith}
 use borrow.Author.Tests.{ltb-true, ltb-false, not-false}
 use lib.Dec.{ltb, leb, eqb}
 use lib.ListN.{length, length-map}
-use Rattle.refusal.specs.declared.Refusal.{Refusal}
 use Rattle.refusal.specs.Refused.{refusedAt}
 use Rattle.refusal.specs.Checks.{isMode, isLead}
+use Rattle.refusal.specs.declared.Refusal.{Refusal}
 use Rattle.refusal.proofs.Limits.{mode-range}
 use Rattle.walsh.specs.declared.Character.{Character}
-use Rattle.block.specs.declared.Encoded.{Encoded}
-use Rattle.block.specs.declared.Decoded.{Decoded}
-use Rattle.block.specs.declared.BlockDecoded.{BlockDecoded}
-use Rattle.block.specs.Encoding.{firstBadCode, encodeBlock}
-use Rattle.block.specs.Decoding.{charactersOf, firstUnclear, judgement, firstBadTone, refused, decodeBlock}
-use Rattle.message.specs.Blocks.{longest, blockCount, isWhole}
-use Rattle.message.specs.Encoding.{firstBadTextCode, encodeMessage}
-use Rattle.message.specs.Decoding.{codesOf, textEnd, firstZero, judgedAt, textJudgement, heardJudgement, messageCharacters, decodeMessage}
-use Rattle.message.proofs.Counts.{count-small, whole-blocks, whole-few}
-use Rattle.message.proofs.TextEnds.{end-within}
-use Rattle.message.proofs.HeardBlocks.{message-count}
+use Rattle.tone_range.specs.Range.{firstBadTone}
+use Rattle.block_encoder.specs.Encoding.{firstBadCode, encodeBlock}
+use Rattle.block_encoder.specs.declared.Encoded.{Encoded}
+use Rattle.block_decoder.specs.Decoding.{charactersOf, codesOf, firstUnclear, unlessUnclear, refused, decodeBlock}
+use Rattle.block_decoder.specs.declared.Decoded.{Decoded}
+use Rattle.block_decoder.specs.declared.Decoded.the-variants.{Text}
+use Rattle.block_decoder.specs.declared.BlockDecoded.{BlockDecoded}
+use Rattle.block_decoder.proofs.Characters.{characters-length}
+use Rattle.delivery.specs.Delivery.{textEnd, firstZero, delivery}
+use Rattle.delivery.proofs.TextEnds.{end-within}
+use Rattle.message_encoder.specs.Blocks.{longest, blockCount, isWhole}
+use Rattle.message_encoder.specs.Encoding.{firstBadTextCode, encodeMessage}
+use Rattle.message_encoder.proofs.Counts.{count-small, whole-blocks, whole-few}
+use Rattle.message_decoder.specs.Decoding.{messageCharacters, decodeMessage}
+use Rattle.message_decoder.proofs.HeardBlocks.{message-count}
 use Rattle.band.specs.Limits.{fault}
 use Rattle.band.specs.Frequencies.{hertzOf, frequencyOf}
 use Rattle.band.specs.declared.Tuned.the-variants as tuned
-use Rattle.olivia.specs.Told.{carriedBy, heardCarries}
+use Rattle.olivia.specs.Internal.{carriedBy, heardCarries}
 
 -- what holds of each of two answers holds of the one that a test chooses
 either-way : {A : Type 0} (P : A → Type 0) (t : Bool) (x y : A) → (t ≡ true → P x) → (t ≡ false → P y) → P (cond t x y)
@@ -55,12 +59,14 @@ block-sent-small b codes room =
     (λ bad. omega (arith, ltb-true (firstBadCode codes) b bad, mode-range b (not-false _ mode)))
     (λ _. omega arith))))
 
-judged-small : (b m : ℕ) (characters : List Character) → b ≤ 8 → heardCarries (judgement b m characters) < 2 ^ 32
-unfolding judgement
-judged-small b m characters h =
-    either-way SmallHeard (ltb (firstUnclear b m characters) b) _ _
-    (λ unclear. omega (arith, ltb-true (firstUnclear b m characters) b unclear))
-    (λ _. omega arith)
+-- of some characters, by their count and by the answer for clear ones
+judged-small : (m : ℕ) (characters : List Character) (clear : Decoded) → length characters < 2 ^ 32 → heardCarries clear < 2 ^ 32
+    → heardCarries (unlessUnclear m characters clear) < 2 ^ 32
+unfolding unlessUnclear
+judged-small m characters clear few h =
+    either-way SmallHeard (ltb (firstUnclear m characters) (length characters)) _ _
+    (λ unclear. omega (arith, ltb-true (firstUnclear m characters) (length characters) unclear))
+    (λ _. h)
 
 pub block-heard-small : (b m : ℕ) (tones : List ℕ) (room : ℕ) → heardCarries (decodeBlock b m tones room .answer) < 2 ^ 32
 unfolding decodeBlock refused
@@ -71,7 +77,9 @@ block-heard-small b m tones room =
     either-way SmallHeardBlock (ltb room b) _ _ (λ _. omega arith) (λ _.
     either-way SmallHeardBlock (ltb (firstBadTone (2 ^ b) tones) 64) _ _
     (λ bad. omega (arith, ltb-true (firstBadTone (2 ^ b) tones) 64 bad))
-    (λ _. judged-small b m (charactersOf b tones) (mode-range b (not-false _ mode) .1))))))
+    (λ _.
+    let high : b ≤ 8 = mode-range b (not-false _ mode) .1 in
+    judged-small m (charactersOf b tones) (Text b) (omega (arith, characters-length b tones)) (omega arith))))))
 
 -- ---- a message
 
@@ -87,20 +95,19 @@ message-sent-small b text room =
     (λ _. omega (arith, count-small b (length text), mode-range b (not-false _ mode))))))
 
 -- of codes fewer than those of the longest message and one block
-ended-small : (b : ℕ) (codes : List ℕ) (n : ℕ) → n ≤ length codes → length codes < longest + 8 → heardCarries (judgedAt longest b codes n) < 2 ^ 32
-unfolding judgedAt
-ended-small b codes n within few =
-    either-way SmallHeard (ltb (firstZero codes n) n) _ _ (λ zero. omega (arith, ltb-true (firstZero codes n) n zero)) (λ _.
-    either-way SmallHeard (leb b (length codes - n)) _ _ (λ _. omega arith) (λ _.
-    either-way SmallHeard (ltb longest n) _ _ (λ _. omega arith) (λ _. omega arith)))
+delivery-small : (b : ℕ) (codes : List ℕ) → length codes < longest + 8 → heardCarries (delivery longest b codes) < 2 ^ 32
+unfolding delivery
+delivery-small b codes few =
+    let within : textEnd codes ≤ length codes = end-within codes in
+    either-way SmallHeard (ltb (firstZero codes) (textEnd codes)) _ _ (λ zero. omega (arith, ltb-true (firstZero codes) (textEnd codes) zero)) (λ _.
+    either-way SmallHeard (leb b (length codes - textEnd codes)) _ _ (λ _. omega arith) (λ _.
+    either-way SmallHeard (ltb longest (textEnd codes)) _ _ (λ _. omega arith) (λ _. omega arith)))
 
-characters-small : (b m : ℕ) (characters : List Character) → length characters < longest + 8 → heardCarries (heardJudgement longest b m characters) < 2 ^ 32
-unfolding heardJudgement textJudgement codesOf
+characters-small : (b m : ℕ) (characters : List Character) → length characters < longest + 8
+    → heardCarries (unlessUnclear m characters (delivery longest b (codesOf characters))) < 2 ^ 32
+unfolding codesOf
 characters-small b m characters few =
-    let n = length characters in
-    let codes = codesOf characters in
-    either-way SmallHeard (ltb (firstUnclear n m characters) n) _ _ (λ unclear. omega (arith, ltb-true (firstUnclear n m characters) n unclear)) (λ _.
-    ended-small b codes (textEnd codes (length codes)) (end-within codes (length codes)) (rw length-map few))
+    judged-small m characters (delivery longest b (codesOf characters)) (omega arith) (delivery-small b (codesOf characters) (rw length-map few))
 
 pub message-heard-small : (b m : ℕ) (tones : List ℕ) (room : ℕ) → heardCarries (decodeMessage longest b m tones room) < 2 ^ 32
 unfolding decodeMessage

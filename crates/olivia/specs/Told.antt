@@ -2,17 +2,17 @@
 use mathlib.Core.Path.{_≡_}
 use mathlib.Core.List.{List}
 use Prim.Native.Nat.{ℕ, min}
+use Rattle.lists.specs.Lists.{tab}
 use Rattle.refusal.specs.declared.Refusal.{Refusal}
-use Rattle.walsh.specs.Lists.{tab}
 use Rattle.walsh.specs.declared.Character.{Character}
-use Rattle.block.specs.Decoding.{leadIn}
-use Rattle.block.specs.Demand.{trialOf, Tried}
-use Rattle.block.specs.declared.Encoded.{Encoded}
-use Rattle.block.specs.declared.Encoded.the-variants as encoded
-use Rattle.block.specs.declared.Decoded.{Decoded}
-use Rattle.block.specs.declared.Decoded.the-variants as decoded
-use Rattle.block.specs.declared.BlockDecoded.{BlockDecoded}
-use Rattle.block.specs.declared.trial.Trial.{Trial}
+use Rattle.block_encoder.specs.declared.Encoded.{Encoded}
+use Rattle.block_encoder.specs.declared.Encoded.the-variants as encoded
+use Rattle.block_decoder.specs.Decoding.{leadIn}
+use Rattle.block_decoder.specs.declared.Decoded.{Decoded}
+use Rattle.block_decoder.specs.declared.Decoded.the-variants as decoded
+use Rattle.block_decoder.specs.declared.BlockDecoded.{BlockDecoded}
+use Rattle.demands.specs.Demand.{trialOf, Tried}
+use Rattle.demands.specs.declared.trial.Trial.{Trial}
 use Rattle.band.specs.Exact.{scaled}
 use Rattle.band.specs.declared.Tuned.{Tuned}
 use Rattle.band.specs.declared.Tuned.the-variants as tuned
@@ -62,16 +62,6 @@ trialTold t = record {
 }
 
 -- the promise of a trial: C is told the answers, and of these and of the outputs demand 3 holds
-pub record TriedForC (b m : ℕ) (text heard : List ℕ) (r : TrialAnswers) (tones tones′ first first′ second second′ : List ℕ) : Type 0 where
-  pub answers : r ≡ trialTold (trialOf b m text heard tones first second)
-  pub tried : Tried b m text heard (trialOf b m text heard tones first second) tones tones′ first first′ second second′
-
--- ---- the count or the place that an answer carries
-
-abbrev pub carriedBy : Encoded → ℕ
-carriedBy (encoded.Tones n) = n
-carriedBy (encoded.Refused r) = r .place
-
-abbrev pub heardCarries : Decoded → ℕ
-heardCarries (decoded.Text n) = n
-heardCarries (decoded.Refused r) = r .place
+pub record TriedForC (b m : ℕ) (text heard : List ℕ) (r : TrialAnswers) (tones tones′ one one′ two two′ : List ℕ) : Type 0 where
+  pub answers : r ≡ trialTold (trialOf b m text heard tones one two)
+  pub tried : Tried b m text heard (trialOf b m text heard tones one two) tones tones′ one one′ two two′

@@ -1,17 +1,18 @@
 // The C library: the entries of document 01 for C and C++. include/olivia.h declares them.
-use block::Decoded;
-use block::Encoded;
+use block_decoder::Decoded;
+use block_encoder::Encoded;
 use refusal::Refusal;
 ghost use mathlib.Core.Path.{_≡_};
 ghost use Prim.Native.Nat.{_<_, _^_};
 ghost use lib.ListN.{length};
-ghost use Rattle.block.specs.Encoding.{encodeBlock, encodedInto};
-ghost use Rattle.block.specs.Decoding.{decodeBlock, decodedInto};
-ghost use Rattle.message.specs.Blocks.{longest};
-ghost use Rattle.message.specs.Encoding.{encodeMessage, messageEncodedInto};
-ghost use Rattle.message.specs.Decoding.{decodeMessage, messageDecodedInto};
+ghost use Rattle.block_encoder.specs.Encoding.{encodeBlock, encodedInto};
+ghost use Rattle.block_decoder.specs.Decoding.{decodeBlock, decodedInto};
+ghost use Rattle.message_encoder.specs.Blocks.{longest};
+ghost use Rattle.message_encoder.specs.Encoding.{encodeMessage, messageEncodedInto};
+ghost use Rattle.message_decoder.specs.Decoding.{decodeMessage, messageDecodedInto};
 ghost use Rattle.band.specs.Frequencies.{frequencyOf};
-ghost use Rattle.olivia.specs.Told.{acceptedTold, refusalTold, encodedTold, decodedTold, leadsOf, blockTold, hertzTold, capped, TriedForC, carriedBy, heardCarries};
+ghost use Rattle.olivia.specs.Told.{acceptedTold, refusalTold, encodedTold, decodedTold, leadsOf, blockTold, hertzTold, capped, TriedForC};
+ghost use Rattle.olivia.specs.Internal.{carriedBy, heardCarries};
 
 // number 0: accepted, and count is the tones or codes written. Else the refusal, and count is 0.
 #[repr(C)]
@@ -52,7 +53,7 @@ pub extern "C" fn olivia_encode_block(mode: u32, codes: &[u8], tones: &mut [u16]
     ensures answer { λ r. ⌜ r ≡ encodedTold (encodeBlock mode (now (codes .entry)) (length (now (tones .entry)))) ⌝ }
     ensures output { λ _. ⌜ now (tones .exit) ≡ encodedInto mode (now (codes .entry)) (now (tones .entry)) ⌝ }
 {
-    told_encoded(block::encode_block(mode, codes, tones))
+    told_encoded(block_encoder::encode_block(mode, codes, tones))
 }
 
 #[no_mangle]
@@ -65,7 +66,7 @@ pub extern "C" fn olivia_decode_block(
     ensures answer { λ r. ⌜ r ≡ blockTold (decodeBlock mode «least_lead» (now (tones .entry)) (length (now (codes .entry)))) ⌝ }
     ensures output { λ _. ⌜ now (codes .exit) ≡ decodedInto mode «least_lead» (now (tones .entry)) (now (codes .entry)) ⌝ }
 {
-    let heard = block::decode_block(mode, least_lead, tones, codes);
+    let heard = block_decoder::decode_block(mode, least_lead, tones, codes);
     let answer = heard.answer;
     let characters = heard.characters;
     BlockAnswer {
@@ -79,7 +80,7 @@ pub extern "C" fn olivia_encode_message(mode: u32, text: &[u8], tones: &mut [u16
     ensures answer { λ r. ⌜ r ≡ encodedTold (encodeMessage longest mode (now (text .entry)) (length (now (tones .entry)))) ⌝ }
     ensures output { λ _. ⌜ now (tones .exit) ≡ messageEncodedInto longest mode (now (text .entry)) (now (tones .entry)) ⌝ }
 {
-    told_encoded(message::encode_message(mode, text, tones))
+    told_encoded(message_encoder::encode_message(mode, text, tones))
 }
 
 #[no_mangle]
@@ -92,7 +93,7 @@ pub extern "C" fn olivia_decode_message(
     ensures answer { λ r. ⌜ r ≡ decodedTold (decodeMessage longest mode «least_lead» (now (tones .entry)) (length (now (text .entry)))) ⌝ }
     ensures output { λ _. ⌜ now (text .exit) ≡ messageDecodedInto longest mode «least_lead» (now (tones .entry)) (now (text .entry)) ⌝ }
 {
-    told_decoded(message::decode_message(mode, least_lead, tones, text))
+    told_decoded(message_decoder::decode_message(mode, least_lead, tones, text))
 }
 
 #[no_mangle]
@@ -117,7 +118,7 @@ pub extern "C" fn olivia_frequency(mode: u32, width: u32, centre: u32, tone: u16
     }
 }
 
-// The promise of block::trial::run, of the answers as C is told them.
+// The promise of demands::trial::run, of the answers as C is told them.
 #[no_mangle]
 pub extern "C" fn olivia_trial_run(
     mode: u32,
@@ -125,17 +126,17 @@ pub extern "C" fn olivia_trial_run(
     text: &[u8],
     heard: &[u16],
     tones: &mut [u16],
-    first: &mut [u8],
-    second: &mut [u8],
+    one: &mut [u8],
+    two: &mut [u8],
 ) -> TrialAnswers
-    ensures { λ r. ⌜ TriedForC mode «least_lead» (now (text .entry)) (now (heard .entry)) r (now (tones .entry)) (now (tones .exit)) (now (first .entry)) (now (first .exit)) (now (second .entry)) (now (second .exit)) ⌝ }
+    ensures { λ r. ⌜ TriedForC mode «least_lead» (now (text .entry)) (now (heard .entry)) r (now (tones .entry)) (now (tones .exit)) (now (one .entry)) (now (one .exit)) (now (two .entry)) (now (two .exit)) ⌝ }
 {
-    let trial = block::trial::run(mode, least_lead, text, heard, tones, first, second);
+    let trial = demands::trial::run(mode, least_lead, text, heard, tones, one, two);
     let encoded = trial.encoded;
-    let one = trial.first;
-    let two = trial.second;
-    let first_answer = one.answer;
-    let second_answer = two.answer;
+    let first = trial.first;
+    let second = trial.second;
+    let first_answer = first.answer;
+    let second_answer = second.answer;
     TrialAnswers {
         encoded: told_encoded(encoded),
         first: told_decoded(first_answer),

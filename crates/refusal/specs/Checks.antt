@@ -1,5 +1,6 @@
 -- Limits that several entries check: document 01, "Who can cause a refusal".
-use mathlib.Core.Bool.{Bool, _&&_}
+use mathlib.Core.Bool.{Bool, true, _&&_}
+use mathlib.Core.Path.{_≡_}
 use Prim.Native.Nat.{ℕ}
 use lib.Dec.{leb}
 
@@ -11,3 +12,8 @@ isMode b = within 1 8 b
 
 abbrev pub isLead : ℕ → Bool
 isLead m = within 1 64 m
+
+-- a mode and a set lead within their limits
+pub record IsSet (b m : ℕ) : Type 0 where
+  pub mode : isMode b ≡ true
+  pub lead : isLead m ≡ true

@@ -8,10 +8,10 @@ use native.Mathlib.Omega.{arith}
 use lib.Dec.{ltb, ltb→lt, nltb→le}
 use lib.IntN.{ℤ, natAbs}
 use borrow.Author.Tests.{eq-eqb, ne-eqb}
+use Rattle.lists.proofs.Integers.{cond-cases}
 use Rattle.walsh.specs.Decision.{better, best, rival, leadOf, negative, codeOf, decisionFor, decision}
 use Rattle.walsh.specs.Laws.{Chosen, Decision}
 use Rattle.walsh.specs.declared.Character.{Character}
-use Rattle.walsh.proofs.Integers.{cond-cases}
 
 -- what holds at each place below n, and at n, holds at each below suc n
 pub below-suc : (P : ℕ → Type 0) (n : ℕ) → ((k : ℕ) → k < n → P k) → P n → (k : ℕ) → k < suc n → P k

@@ -6,13 +6,14 @@ use Prim.Native.Nat.{ℕ, zero, suc, _+_, _*_, _<_, _≤_}
 use native.Mathlib.Decide.{ℕ-discrete}
 use native.Mathlib.Omega.{arith}
 use lib.IntN.{ℤ, pos, negsuc, natAbs, _-ℤ_, +ℤ-idr, pos-*ℤ-pos}
-use Rattle.walsh.specs.Sums.{sum, total}
+use Rattle.lists.specs.Sums.{sum, total}
+use Rattle.lists.proofs.Sums.{sum-ext, sum-sub, sum-const, abs-sum, total-ext}
 use Rattle.walsh.specs.Words.{minus, signed, corr}
 use Rattle.walsh.specs.Decision.{negative, codeOf, decision}
 use Rattle.walsh.specs.Damage.{sent, damage}
-use Rattle.walsh.specs.Laws.{Chosen, Moved, Kept, Damage}
-use Rattle.walsh.proofs.Integers.{abs-signed, signed-sub, signed-twice, near-large, near-negative}
-use Rattle.walsh.proofs.Sums.{sum-ext, sum-sub, sum-signed, sum-const, abs-sum, total-ext}
+use Rattle.walsh.specs.Laws.{Chosen, Moved, Withstands, Damage}
+use Rattle.walsh.proofs.Signed.{abs-signed, signed-sub, signed-twice, near-large, near-negative}
+use Rattle.walsh.proofs.Signed.{sum-signed}
 use Rattle.walsh.proofs.Orthogonal.{orthogonality}
 use Rattle.walsh.proofs.Choice.{decision-law}
 
@@ -69,8 +70,8 @@ module _ (N c : ℕ) (s : Bool) (h : ℕ → ℤ) where
         choice .code
         ∙ ap₂ codeOf e (ap (λ (k : ℕ). negative (corr h k)) e ∙ sign-near s (corr h c) (64 * N) (damage N c s h) (moved hc .own) p l)
 
-    kept : Kept N c s h m
-    kept =
+    withstands : Withstands N c s h m
+    withstands =
         let large : 64 * N ≤ natAbs (corr h c) + damage N c s h = own-large hc in
         let nearest = choice .attained in
         record {
@@ -89,5 +90,5 @@ module _ (N c : ℕ) (s : Bool) (h : ℕ → ℤ) where
 pub damage-law : Damage
 damage-law = record {
   moved = moved;
-  kept = λ N c s h m hc hm. let choice = decision-law .chosen (corr h) in kept N c s h m hc hm (choice .0) (choice .1);
+  withstands = λ N c s h m hc hm. let choice = decision-law .chosen (corr h) in withstands N c s h m hc hm (choice .0) (choice .1);
 }

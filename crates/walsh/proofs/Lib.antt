@@ -1,5 +1,4 @@
-pub mod Integers
-pub mod Sums
+pub mod Signed
 pub mod Signs
 pub mod Orthogonal
 pub mod Butterflies
@@ -7,6 +6,6 @@ pub mod Choice
 pub mod Parities
 pub mod Drift
 pub mod Locals
-pub mod Tables
+pub mod Halves
 pub mod Sizes
 pub mod Passes

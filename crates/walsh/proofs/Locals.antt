@@ -15,9 +15,9 @@ use lib.Signed.{ltZ, nonNeg, natAbs-le}
 use mir.Syntax.{w8, w32}
 use mir.Val.{Val, SFits, toZ, ofZ}
 use mir.Facts.{toZ-ofZ}
-use Rattle.walsh.specs.Lists.{at}
+use Rattle.lists.specs.Lists.{at}
+use Rattle.lists.proofs.Integers.{abs-add, abs-sub}
 use Rattle.walsh.specs.Decision.{negative}
-use Rattle.walsh.proofs.Integers.{abs-add, abs-sub}
 
 -- every number of the transform is at most 64 times the magnitude of an i8
 pub fits : (z : ℤ) → natAbs z ≤ 8192 → SFits w32 z

@@ -4,12 +4,12 @@ use Prim.Native.Nat.{ℕ, _%_}
 use native.Mathlib.Omega.{arith}
 use lib.Dec.{eqb}
 use lib.IntN.{ℤ, natAbs}
-use Rattle.walsh.specs.Sums.{sum}
+use Rattle.lists.specs.Sums.{sum}
+use Rattle.lists.proofs.Sums.{abs-sum-parity, total-ext}
 use Rattle.walsh.specs.Words.{minus, signed, corr}
 use Rattle.walsh.specs.Decision.{decision}
 use Rattle.walsh.specs.Laws.{Parity}
-use Rattle.walsh.proofs.Integers.{abs-signed}
-use Rattle.walsh.proofs.Sums.{abs-sum-parity, total-ext}
+use Rattle.walsh.proofs.Signed.{abs-signed}
 use Rattle.walsh.proofs.Signs.{odd-zero}
 use Rattle.walsh.proofs.Choice.{decision-law}
 

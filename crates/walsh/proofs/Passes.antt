@@ -1,20 +1,22 @@
 -- The passes of the lead finder find the best word, its magnitude and its rival's.
 use mathlib.Core.Path.{_≡_, refl, sym, _∙_, ap, ap₂}
 use mathlib.Core.List.{List}
-use mathlib.Core.Logic.{_≢_}
 use Prim.Native.Nat.{ℕ, zero, suc, _-_, _<_, _≤_, max}
-use native.Mathlib.Decide.{ℕ-discrete, decLt}
+use native.Mathlib.Decide.{ℕ-discrete}
 use native.Mathlib.Omega.{arith}
 use lib.IntN.{ℤ, natAbs}
 use lib.ListN.{getD, set}
 use lib.Seq.{getD-set-same, getD-set-other}
-use borrow.Author.Tests.{lt-ltb, le-ltb, eq-eqb, ne-eqb}
-use Rattle.walsh.specs.Lists.{tab}
+use borrow.Author.Tests.{eq-eqb, ne-eqb}
+use lib.Dec.{eqb}
+use Rattle.lists.specs.Lists.{tab}
+use Rattle.lists.specs.Places.{first}
+use Rattle.lists.proofs.Places.{first-only}
+use Rattle.lists.proofs.Tables.{tab-length, tab-at}
 use Rattle.walsh.specs.Decision.{best, rival, leadOf, negative, codeOf, decisionFor, decision}
-use Rattle.walsh.specs.Passes.{largest, firstAt}
+use Rattle.walsh.specs.Internal.{largest}
 use Rattle.walsh.specs.declared.Character.{Character}
 use Rattle.walsh.proofs.Choice.{Best, best-is, below-suc, rival-other, rival-below, same-character}
-use Rattle.walsh.proofs.Tables.{tab-length, tab-at}
 
 module _ (f : ℕ → ℕ) where
   -- ---- the largest number
@@ -29,39 +31,6 @@ module _ (f : ℕ → ℕ) where
   unfolding largest
   largest-below zero B h = omega arith
   largest-below (suc n) B h = omega (arith, largest-below n B (λ k l. h k (omega arith)), h n (omega arith))
-
-  -- ---- the lowest place of m
-
-  module _ (m : ℕ) where
-    pub first-miss : (i : ℕ) → firstAt f m i ≡ i → f i ≢ m → firstAt f m (suc i) ≡ suc i
-    unfolding firstAt
-    first-miss i e ne = rw e (simp (le-ltb i i (omega arith), ne-eqb (f i) m ne))
-
-    pub first-hit : (i : ℕ) → firstAt f m i ≡ i → f i ≡ m → (n : ℕ) → i < n → firstAt f m n ≡ i
-    unfolding firstAt
-    first-hit i e h zero l = absurd (omega arith)
-    first-hit i e h (suc n) l = by (first-hit i e h n) (decLt i n)
-      where
-        by : (i < n → firstAt f m n ≡ i) → Dec (i < n) → firstAt f m (suc n) ≡ i
-        by r (yes g) = rw (r g) (simp (lt-ltb i n g))
-        by r (no g) =
-            let same : n ≡ i = omega arith in
-            rw (same, e) (simp (le-ltb i i (omega arith), eq-eqb (f i) m h))
-
-    first-all-missed : (n : ℕ) → ((k : ℕ) → k < n → f k ≢ m) → firstAt f m n ≡ n
-    unfolding firstAt
-    first-all-missed zero h = refl
-    first-all-missed (suc n) h = first-miss n (first-all-missed n (λ k l. h k (omega arith))) (h n (omega arith))
-
-    -- the lowest place of m, where that is at most n, is what the first n places give: n itself if none of them has m
-    first-lowest : (n w : ℕ) → w < suc n → f w ≡ m → ((k : ℕ) → k < w → f k ≢ m) → firstAt f m n ≡ w
-    first-lowest n w l e h = by (decLt w n)
-      where
-        by : Dec (w < n) → firstAt f m n ≡ w
-        by (yes g) = first-hit w (first-all-missed w h) e n g
-        by (no g) =
-            let last : n ≡ w = omega arith in
-            rw last (first-all-missed w h)
 
 -- ---- the magnitudes x of the correlations r
 
@@ -80,10 +49,14 @@ module _ (r : ℕ → ℤ) (x : List ℕ) (e : x ≡ tab (λ i. natAbs (r i)) 64
         largest-below f 64 (natAbs (r w)) (λ k l. omega (arith, magnitude-at k l, b .greatest k l)),
       )
 
-  place-best : (w : ℕ) → Best r 64 w → firstAt (λ i. getD x i 0) (natAbs (r w)) 63 ≡ w
+  place-best : (w : ℕ) → Best r 64 w → first (λ i. eqb (getD x i 0) (natAbs (r w))) 63 ≡ w
   place-best w b =
-      first-lowest (λ i. getD x i 0) (natAbs (r w)) 63 w (b .inside) (magnitude-at w (b .inside))
-      (λ k l p. omega (arith, magnitude-at k (omega (arith, b .inside)), b .lowest k l))
+      sym (first-only _ 63 w
+      (record {
+        within = omega (arith, b .inside);
+        holds = λ l. eq-eqb (getD x w 0) (natAbs (r w)) (magnitude-at w (b .inside));
+        lowest = λ k l. ne-eqb (getD x k 0) (natAbs (r w)) (λ p. omega (arith, magnitude-at k (omega (arith, b .inside)), b .lowest k l));
+      }))
 
   -- with 0 at w, their largest number is that of w's rival
   largest-rival : (w : ℕ) → w < 64 → (n : ℕ) → n ≤ 64 → largest (λ i. getD (set x w 0) i 0) n ≡ rival r w n
@@ -99,11 +72,11 @@ module _ (r : ℕ → ℤ) (x : List ℕ) (e : x ≡ tab (λ i. natAbs (r i)) 64
 
   -- ---- what the first two passes found
 
-  module _ (greatest word : ℕ) (g : greatest ≡ largest (λ i. getD x i 0) 64) (p : word ≡ firstAt (λ i. getD x i 0) greatest 63) where
+  module _ (greatest word : ℕ) (g : greatest ≡ largest (λ i. getD x i 0) 64) (p : word ≡ first (λ i. eqb (getD x i 0) greatest) 63) where
     word-best : word ≡ best r 64
     word-best =
         let b = best-is r 63 in
-        p ∙ ap (λ (m : ℕ). firstAt (λ i. getD x i 0) m 63) (g ∙ largest-best (best r 64) b) ∙ place-best (best r 64) b
+        p ∙ ap (λ (m : ℕ). first (λ i. eqb (getD x i 0) m) 63) (g ∙ largest-best (best r 64) b) ∙ place-best (best r 64) b
 
     is-best : Best r 64 word
     is-best = rw word-best (best-is r 63)

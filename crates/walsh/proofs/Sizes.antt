@@ -3,19 +3,20 @@ use mathlib.Core.Path.{_≡_, refl, sym, _∙_, ap, ap₂}
 use mathlib.Core.List.{List}
 use Prim.Native.Nat.{ℕ, zero, suc, _+_, _*_, _-_, _<_, _≤_}
 use native.Mathlib.Decide.{decLt}
-use native.Mathlib.Nat.{le-trans, suc-mul}
+use native.Mathlib.Nat.{le-trans}
 use native.Mathlib.Omega.{arith}
 use lib.Dec.{T, leb, leb→le}
 use lib.IntN.{ℤ, pos, natAbs, _+ℤ_, _-ℤ_}
 use lib.ListN.{length, List·getD-eq-default}
-use Rattle.walsh.specs.Lists.{tab, at}
-use Rattle.walsh.specs.Sums.{total}
+use Rattle.lists.specs.Lists.{tab, at}
+use Rattle.lists.proofs.Integers.{abs-add, abs-sub}
+use Rattle.lists.proofs.Sums.{abs-sum, total-within}
+use Rattle.lists.proofs.Tables.{tab-length, tab-at, is-tab}
 use Rattle.walsh.specs.Words.{minus, signed, corr, correlationsOf}
-use Rattle.walsh.specs.Transform.{butterfly, butterflies, stepOf, Within}
-use Rattle.walsh.proofs.Integers.{abs-add, abs-sub, abs-signed}
-use Rattle.walsh.proofs.Sums.{abs-sum}
+use Rattle.walsh.specs.Transform.{butterfly, butterflies}
+use Rattle.walsh.specs.Internal.{stepOf, Within}
+use Rattle.walsh.proofs.Signed.{abs-signed}
 use Rattle.walsh.proofs.Butterflies.{butterfly-low, butterfly-high, transform}
-use Rattle.walsh.proofs.Tables.{tab-length, tab-at, is-tab}
 
 pub upto : {b : ℕ} (B : ℕ) {x : List ℤ} → Within b x → T (leb b B) → Within B x
 upto {b} B w t = record { within = λ i. le-trans (w .within i) (leb→le b B t) }
@@ -47,11 +48,6 @@ step-within {b} {x} w e =
     butterfly-cases (λ z. natAbs z ≤ b + b) (at x) i
     (λ l. omega (arith, abs-add (at x (2 * i)) (at x (2 * i + 1)), w .within (2 * i), w .within (2 * i + 1)))
     (λ j q. omega (arith, abs-sub (at x (2 * j + 1)) (at x (2 * j)), w .within (2 * j), w .within (2 * j + 1)))))
-
-total-within : (n b : ℕ) (f : ℕ → ℕ) → ((t : ℕ) → f t ≤ b) → total n f ≤ n * b
-unfolding total
-total-within zero b f h = omega arith
-total-within (suc n) b f h = omega (arith, total-within n b f h, h n, suc-mul n b)
 
 pub correlations-within : {b : ℕ} (x : List ℤ) → Within b x → Within (64 * b) (correlationsOf (at x))
 unfolding correlationsOf corr

@@ -4,7 +4,7 @@ use mathlib.Core.Bool.{Bool, false}
 use mathlib.Core.Logic.{_≢_}
 use Prim.Native.Nat.{ℕ, _+_, _*_, _<_, _≤_}
 use lib.IntN.{ℤ, pos, natAbs, _-ℤ_, _*ℤ_}
-use Rattle.walsh.specs.Sums.{sum}
+use Rattle.lists.specs.Sums.{sum}
 use Rattle.walsh.specs.Words.{odd, minus, signed, corr}
 use Rattle.walsh.specs.Transform.{butterflies}
 use Rattle.walsh.specs.Decision.{negative, codeOf, decision}
@@ -47,10 +47,10 @@ module _ (N c : ℕ) (s : Bool) (h : ℕ → ℤ) where
     pub own : natAbs (signed s (corr h c) -ℤ pos (64 * N)) ≤ damage N c s h
 
   -- Under the first bound the decision is what was sent, with a lead of at least m; under the second no other has such a lead.
-  pub record Kept (m : ℕ) : Type 0 where
+  pub record Withstands (m : ℕ) : Type 0 where
     pub decided : 2 * damage N c s h + m ≤ 64 * N → (decision (corr h) .code ≡ codeOf c s) × (m ≤ decision (corr h) .lead)
     pub no-other : 2 * damage N c s h < 64 * N + m → m ≤ decision (corr h) .lead → decision (corr h) .code ≡ codeOf c s
 
 pub record Damage : Type 0 where
   pub moved : (N c : ℕ) (s : Bool) (h : ℕ → ℤ) → c < 64 → Moved N c s h
-  pub kept : (N c : ℕ) (s : Bool) (h : ℕ → ℤ) (m : ℕ) → c < 64 → 1 ≤ m → Kept N c s h m
+  pub withstands : (N c : ℕ) (s : Bool) (h : ℕ → ℤ) (m : ℕ) → c < 64 → 1 ≤ m → Withstands N c s h m

@@ -1,13 +1,13 @@
 // Walsh words, the fast transform, and the decision on one character from its 64 counts.
 ghost use mathlib.Core.Path.{_≡_};
 ghost use Prim.Native.Nat.{_<_, _≤_};
+ghost use lib.Dec.{eqb};
 ghost use lib.IntN.{natAbs};
-ghost use lib.ListN.{getD};
-ghost use Rattle.walsh.specs.Lists.{tab, at};
+ghost use Rattle.lists.specs.Lists.{tab, num, at};
+ghost use Rattle.lists.specs.Places.{first};
 ghost use Rattle.walsh.specs.Words.{minus, corr, correlationsOf};
-ghost use Rattle.walsh.specs.Transform.{stepOf, Within};
 ghost use Rattle.walsh.specs.Decision.{negative, codeOf, decision};
-ghost use Rattle.walsh.specs.Passes.{largest, firstAt};
+ghost use Rattle.walsh.specs.Internal.{stepOf, Within, largest};
 
 pub mod laws;
 
@@ -103,7 +103,7 @@ fn magnitudes(correlations: [i32; 64]) -> [u16; 64]
 
 // The largest of the numbers.
 fn largest(numbers: &[u16; 64]) -> u16
-    ensures { λ r. ⌜ r ≡ largest (λ i. getD (now (numbers .entry)) i 0) 64 ⌝ }
+    ensures { λ r. ⌜ r ≡ largest (num (now (numbers .entry))) 64 ⌝ }
 {
     let mut most: u16 = 0;
     let mut i: usize = 0;
@@ -118,7 +118,7 @@ fn largest(numbers: &[u16; 64]) -> u16
 
 // The lowest place of a number among the first 63, else 63.
 fn place_of(number: u16, numbers: &[u16; 64]) -> usize
-    ensures { λ r. ⌜ r ≡ firstAt (λ i. getD (now (numbers .entry)) i 0) number 63 ⌝ }
+    ensures { λ r. ⌜ r ≡ first (λ i. eqb (num (now (numbers .entry)) i) number) 63 ⌝ }
 {
     let mut place: usize = 0;
     while place < 63 {

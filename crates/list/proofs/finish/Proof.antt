@@ -1,5 +1,5 @@
 use borrow.Author.Needs.{needs}
-use Rattle.listing.proofs.Pasting.{pasted-fits}
+use Rattle.lists.proofs.Fronts.{over-fits}
 use Rattle.listing.proofs.Tellings.{tells-fits}
 use Rattle.list.proofs.finish.Statement.{statement}
 use Rattle.list.proofs.finish.Tie as tie
@@ -18,7 +18,7 @@ finish-requires c κs = search needs
 print-requires-2 : tie.Need-print-requires-2
 print-requires-2 c κs =
     let finish = c .before .before .finish .ensures in
-    rw (finish .0, finish .1) (pasted-fits 0 _ _)
+    rw (finish .0, finish .1) (over-fits _ _)
 
 returns : tie.Need-returns
 returns c = search needs

@@ -1,8 +1,8 @@
 use borrow.Author.Needs.{needs}
 use mathlib.Core.Path.{sym, ap, _∙_}
 use mathlib.Core.Bool.{Bool}
-use Rattle.listing.specs.declared.Line.{Line}
-use Rattle.listing.specs.Reader.{nextLine}
+use Rattle.reader.specs.declared.Line.{Line}
+use Rattle.reader.specs.Reader.{nextLine}
 use Rattle.listing.specs.Stages.{withinLine}
 use Rattle.listing.proofs.StageCases.{says-line-feed, says-byte}
 use Rattle.listing.proofs.Tellings.{tells-as, tells-nothing}

@@ -3,21 +3,21 @@ use Prim.Native.Nat.{_≤_, _-_}
 use native.Mathlib.Omega.{arith}
 use borrow.Author.Needs.{needs}
 use lib.ListN.{replicate}
-use Rattle.block.specs.Lists.{filled}
-use Rattle.block.specs.Decoding.{leadIn}
-use Rattle.block.proofs.Lists.{filled-start, filled-set, filled-whole}
+use Rattle.lists.specs.Lists.{tab, over}
+use Rattle.lists.proofs.Fronts.{over-start, over-set, over-tab-whole}
+use Rattle.block_decoder.specs.Decoding.{leadIn}
 use Rattle.olivia.specs.Told.{leadsOf}
 use Rattle.olivia.proofs.leads_of.Statement.{statement}
 use Rattle.olivia.proofs.leads_of.Tie as tie
 
 abbrev Inv-loop : tie.InvT-loop
-Inv-loop characters leads₀ q₀ leads q = (q ≤ 8) × (leads ≡ filled (leadIn characters) q (replicate 8 0))
+Inv-loop characters leads₀ q₀ leads q = (q ≤ 8) × (leads ≡ over (tab (leadIn characters) q) (replicate 8 0))
 
 abbrev μ-loop : tie.MeasureT-loop
 μ-loop characters leads₀ q₀ leads q = 8 - q
 
 loop-holds : tie.Need-loop-holds Inv-loop μ-loop
-loop-holds c = (search needs, filled-start _ _)
+loop-holds c = (search needs, over-start _ _)
 
 mul-character : tie.Need-mul-character Inv-loop μ-loop
 mul-character c = search needs
@@ -40,14 +40,14 @@ loop-less c = search needs
 loop-again : tie.Need-loop-again Inv-loop μ-loop
 loop-again c =
     let l = c .before .before .loop in
-    (search needs, filled-set 0 _ (l .q) _ _ _ (omega arith) (l .inv .1) refl)
+    (search needs, over-set 0 _ (l .q) _ _ _ (omega arith) (l .inv .1) refl)
 
 returns : tie.Need-returns Inv-loop μ-loop
 unfolding leadsOf
 returns c =
     let l = c .before .loop in
     let e : l .q ≡ 8 = omega arith in
-    (rw e at (l .inv .1)) ∙ filled-whole _ 8 _ (omega arith)
+    (rw e at (l .inv .1)) ∙ over-tab-whole _ 8 _ (omega arith)
 
 pub leads-of-spec : {M : Type 1} → statement M
 leads-of-spec =

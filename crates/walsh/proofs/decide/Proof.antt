@@ -2,13 +2,13 @@ use mathlib.Core.Path.{_∙_, ap}
 use mathlib.Core.List.{List}
 use lib.IntN.{ℤ, pos}
 use borrow.Author.Needs.{needs}
-use Rattle.walsh.specs.Lists.{at}
+use Rattle.lists.specs.Lists.{at}
+use Rattle.lists.proofs.Tables.{tab-at}
 use Rattle.walsh.specs.Words.{corr, correlationsOf}
 use Rattle.walsh.specs.Decision.{decision}
 use Rattle.walsh.proofs.Choice.{decision-ext}
 use Rattle.walsh.proofs.Locals.{each-within}
 use Rattle.walsh.proofs.Sizes.{correlations-within}
-use Rattle.walsh.proofs.Tables.{tab-at}
 use Rattle.walsh.proofs.decide.Statement.{statement}
 use Rattle.walsh.proofs.decide.Tie as tie
 

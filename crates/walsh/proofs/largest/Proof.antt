@@ -5,7 +5,7 @@ use native.Mathlib.Numerals.{add-one}
 use native.Mathlib.Omega.{arith}
 use lib.ListN.{getD}
 use borrow.Author.Needs.{needs}
-use Rattle.walsh.specs.Passes.{largest}
+use Rattle.walsh.specs.Internal.{largest}
 use Rattle.walsh.proofs.largest.Statement.{statement}
 use Rattle.walsh.proofs.largest.Tie as tie
 

@@ -3,7 +3,7 @@ use Prim.Native.Nat.{_<_}
 use native.Mathlib.Omega.{arith}
 use lib.IntN.{ℤ}
 use borrow.Author.Needs.{needs}
-use Rattle.walsh.specs.Lists.{at}
+use Rattle.lists.specs.Lists.{at}
 use Rattle.walsh.specs.Decision.{negative, codeOf}
 use Rattle.walsh.proofs.Locals.{reads}
 use Rattle.walsh.proofs.Passes.{word-inside, second-below, passes-decide}

@@ -1,23 +1,23 @@
-use mathlib.Core.Path.{_≡_, refl, sym, _∙_, ap}
+use mathlib.Core.Path.{_≡_, sym, _∙_}
 use Prim.Native.Nat.{_-_, _≤_}
-use native.Mathlib.Numerals.{add-one}
-use native.Mathlib.Omega.{arith}
-use lib.ListN.{getD}
+use lib.Dec.{eqb}
 use borrow.Author.Needs.{needs}
-use Rattle.walsh.specs.Passes.{firstAt}
-use Rattle.walsh.proofs.Passes.{first-hit, first-miss}
+use borrow.Author.Tests.{eq-eqb, ne-eqb}
+use Rattle.lists.specs.Lists.{num}
+use Rattle.lists.specs.Places.{scan, first}
+use Rattle.lists.proofs.Places.{scan-start, scan-hit, scan-miss, scan-end}
 use Rattle.walsh.proofs.place_of.Statement.{statement}
 use Rattle.walsh.proofs.place_of.Tie as tie
 
 abbrev Inv-loop : tie.InvT-loop
-Inv-loop number numbers place₀ place = (place ≤ 63) × (firstAt (λ k. getD numbers k 0) number place ≡ place)
+Inv-loop number numbers place₀ place =
+    (place ≤ 63) × (scan (λ k. eqb (num numbers k) number) place (63 - place) ≡ first (λ k. eqb (num numbers k) number) 63)
 
 abbrev μ-loop : tie.MeasureT-loop
 μ-loop number numbers place₀ place = 63 - place
 
 loop-holds : tie.Need-loop-holds Inv-loop μ-loop
-unfolding firstAt
-loop-holds c = (omega arith, refl)
+loop-holds c = (search needs, scan-start _ 63)
 
 mul-if1 : tie.Need-mul-if1 Inv-loop μ-loop
 mul-if1 c = search needs
@@ -28,7 +28,7 @@ element-copy-out-if1 c = search needs
 returns : tie.Need-returns Inv-loop μ-loop
 returns c =
     let l = c .before .before .before .loop in
-    sym (first-hit _ _ (l .place) (l .inv .1) (search needs) 63 (omega arith))
+    sym (scan-hit _ (l .place) 63 (c .before .before .loop-test .taken) (eq-eqb _ _ (c .if1 .taken))) ∙ l .inv .1
 
 add-place : tie.Need-add-place Inv-loop μ-loop
 add-place c = search needs
@@ -39,13 +39,10 @@ loop-less c = search needs
 loop-again : tie.Need-loop-again Inv-loop μ-loop
 loop-again c =
     let l = c .before .before .before .loop in
-    (search needs, ap (firstAt _ _) (add-one _) ∙ first-miss _ _ (l .place) (l .inv .1) (search needs) ∙ sym (add-one _))
+    (search needs, scan-miss _ (l .place) 63 (c .before .before .loop-test .taken) (ne-eqb _ _ (c .if1 .left)) ∙ l .inv .1)
 
 returns-2 : tie.Need-returns-2 Inv-loop μ-loop
-returns-2 c =
-    let l = c .before .loop in
-    let done : l .place ≡ 63 = omega arith in
-    done ∙ sym (rw done at (l .inv .1))
+returns-2 c = sym (scan-end _ (c .before .loop .place) 63 (c .loop-test .left)) ∙ c .before .loop .inv .1
 
 pub place-of-spec : {M : Type 1} → statement M
 place-of-spec =

@@ -1,12 +1,7 @@
 use borrow.Author.Needs.{needs}
-use mathlib.Core.Path.{sym, ap, _∙_}
-use native.Mathlib.Omega.{arith}
+use mathlib.Core.Path.{sym, _∙_}
 use borrow.Author.Tests.{not-true, not-false}
-use Rattle.block.specs.declared.BlockDecoded.{BlockDecoded}
-use Rattle.block.proofs.DecodeCases.{accepted}
-use Rattle.refusal.proofs.Limits.{mode-range}
-use Rattle.listing.specs.Stages.{decodedSaid}
-use Rattle.listing.proofs.StageCases.{says-unreadable, says-decoded, says-answer, says-text, says-without}
+use Rattle.listing.proofs.StageCases.{says-unreadable, says-decoded}
 use Rattle.listing.proofs.Tellings.{tells-as, tells-text}
 use Rattle.listing.proofs.judge.take_block.Statement.{statement}
 use Rattle.listing.proofs.judge.take_block.Tie as tie
@@ -36,54 +31,17 @@ returns c =
 decide-requires : tie.Need-decide-requires
 decide-requires c κs = search needs
 
-enum-known-answer : tie.Need-enum-known-answer
-enum-known-answer c = search needs
-
-wrapping-add-u64-requires-2 : tie.Need-wrapping-add-u64-requires-2
-wrapping-add-u64-requires-2 c κs = search needs
-
-put-characters-requires : tie.Need-put-characters-requires
-put-characters-requires c κs =
-    let a = c .before .before .before .before in
-    let d = a .before .before in
-    let told = accepted _ _ _ _ _ (ap (λ (x : BlockDecoded). x .answer) (sym (d .decide .ensures)) ∙ a .answer .given .1) in
-    omega (arith, told .whole, mode-range (d .before .before .before .before .args .mode) (told .passed .mode) .1)
-
-hearing-requires : tie.Need-hearing-requires
-hearing-requires c κs = search needs
-
-enum-known-answer-2 : tie.Need-enum-known-answer-2
-enum-known-answer-2 c = search needs
-
-take-refusal-requires : tie.Need-take-refusal-requires
-take-refusal-requires c κs = search needs
+take-answer-requires : tie.Need-take-answer-requires
+take-answer-requires c κs = search needs
 
 returns-2 : tie.Need-returns-2
 returns-2 c =
-    let a = c .before .before .before .before .before .before in
-    let d = a .before .before in
-    let t = d .before .before in
-    let put = c .before .put-characters .ensures in
-    tells-as
-    _
-    (says-decoded _ _ _ _ _ (sym (t .before .is-readable .ensures) ∙ not-false _ (t .if1 .left))
-    ∙ ap (decodedSaid _ _ _) (sym (d .decide .ensures))
-    ∙ says-answer _ _ _ _ (a .answer .given .1)
-    ∙ says-text _ _ _ _ _)
-    (tells-text _ _ (rw (← (c .before .before .before .wrapping-add-u642 .ensures)) (c .hearing .ensures)) (put .0) (put .1))
-
-returns-3 : tie.Need-returns-3
-returns-3 c =
-    let a = c .before .before .before in
-    let d = a .before .before in
+    let d = c .before .before in
     let t = d .before .before in
     tells-as
     _
-    (says-decoded _ _ _ _ _ (sym (t .before .is-readable .ensures) ∙ not-false _ (t .if1 .left))
-    ∙ ap (decodedSaid _ _ _) (sym (d .decide .ensures))
-    ∙ says-answer _ _ _ _ (a .answer2 .given .1)
-    ∙ says-without _ _ _ _ _)
-    (c .take-refusal .ensures)
+    (says-decoded _ _ _ _ _ (sym (t .before .is-readable .ensures) ∙ not-false _ (t .if1 .left)) (d .decide .ensures))
+    (c .take-answer .ensures)
 
 pub take-block-spec : {M : Type 1} → statement M
 take-block-spec =
@@ -95,11 +53,5 @@ take-block-spec =
     stopped-requires
     returns
     decide-requires
-    enum-known-answer
-    wrapping-add-u64-requires-2
-    put-characters-requires
-    hearing-requires
-    enum-known-answer-2
-    take-refusal-requires
-    returns-2
-    returns-3)
+    take-answer-requires
+    returns-2)

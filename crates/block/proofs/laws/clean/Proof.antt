@@ -1,9 +1,0 @@
-use Rattle.block.proofs.CleanTones.{clean}
-use Rattle.block.proofs.laws.clean.Statement.{statement}
-use Rattle.block.proofs.laws.clean.Tie as tie
-
-returns : tie.Need-returns
-returns c = clean
-
-pub clean-spec : {M : Type 1} → statement M
-clean-spec = tie.close (tie.spec returns)

@@ -1,9 +1,0 @@
-use Rattle.block.proofs.Answers.{clear}
-use Rattle.block.proofs.laws.clear.Statement.{statement}
-use Rattle.block.proofs.laws.clear.Tie as tie
-
-returns : tie.Need-returns
-returns c = clear
-
-pub clear-spec : {M : Type 1} → statement M
-clear-spec = tie.close (tie.spec returns)

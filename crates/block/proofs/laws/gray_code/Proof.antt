@@ -1,9 +1,0 @@
-use Rattle.block.proofs.GrayCodes.{gray-code}
-use Rattle.block.proofs.laws.gray_code.Statement.{statement}
-use Rattle.block.proofs.laws.gray_code.Tie as tie
-
-returns : tie.Need-returns
-returns c = gray-code
-
-pub gray-code-spec : {M : Type 1} → statement M
-gray-code-spec = tie.close (tie.spec returns)

@@ -1,9 +1,0 @@
-use Rattle.block.proofs.Answers.{odd-leads}
-use Rattle.block.proofs.laws.odd_leads.Statement.{statement}
-use Rattle.block.proofs.laws.odd_leads.Tie as tie
-
-returns : tie.Need-returns
-returns c = odd-leads
-
-pub odd-leads-spec : {M : Type 1} → statement M
-odd-leads-spec = tie.close (tie.spec returns)

@@ -1,9 +1,0 @@
-use Rattle.block.proofs.Demands.{round-trip}
-use Rattle.block.proofs.laws.round_trip.Statement.{statement}
-use Rattle.block.proofs.laws.round_trip.Tie as tie
-
-returns : tie.Need-returns
-returns c = round-trip
-
-pub round-trip-spec : {M : Type 1} → statement M
-round-trip-spec = tie.close (tie.spec returns)

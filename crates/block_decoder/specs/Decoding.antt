@@ -1,0 +1,95 @@
+-- Document 01, "Hearing a block", and what decoding a block answers and leaves in the output. Checks when hearing: 1, 2, 7, 9, 8, 10.
+use mathlib.Core.Bool.{Bool, cond, not}
+use mathlib.Core.List.{List, map}
+use Prim.Native.Nat.{ℕ, _+_, _%_, _^_}
+use lib.Dec.{ltb, eqb}
+use lib.IntN.{ℤ, pos}
+use lib.ListN.{length, getD, take, replicate}
+use Rattle.lists.specs.Lists.{tab, num, over}
+use Rattle.lists.specs.Places.{first}
+use Rattle.refusal.specs.Refused.{refusedAt, unclearAt}
+use Rattle.refusal.specs.Checks.{isMode, isLead}
+use Rattle.walsh.specs.Words.{signed, corr, turned}
+use Rattle.walsh.specs.Decision.{decision}
+use Rattle.walsh.specs.declared.Character.{Character}
+use Rattle.chain.specs.Chain.{missingMark, bit, keyBit}
+use Rattle.chain.specs.Tables.{symbolOf}
+use Rattle.tone_range.specs.Range.{firstBadTone}
+use Rattle.block_decoder.specs.declared.Decoded.{Decoded}
+use Rattle.block_decoder.specs.declared.Decoded.the-variants.{Text, Refused}
+use Rattle.block_decoder.specs.declared.BlockDecoded.{BlockDecoded}
+
+-- ---- the characters
+
+-- the symbol of a tone; a missing tone's is missing too
+unfoldable pub heardSymbol : ℕ → ℕ
+heardSymbol tone = cond (eqb tone missingMark) missingMark (symbolOf tone)
+
+unfoldable pub symbolsOf : List ℕ → List ℕ
+symbolsOf tones = tab (λ t. heardSymbol (num tones t)) 64
+
+-- what a symbol counts for a character whose bit is at place, after XOR with a key bit: +1 for 0, -1 for 1, 0 if it is missing
+unfoldable pub countOf : Bool → ℕ → ℕ → ℤ
+countOf k place symbol = cond (eqb symbol missingMark) (pos 0) (signed (turned k (bit symbol place)) (pos 1))
+
+-- what symbol t counts for character q: interleaver and key undone
+unfoldable pub countIn : ℕ → List ℕ → ℕ → ℕ → ℤ
+countIn b symbols q t = countOf (keyBit q t) ((q + t) % b) (num symbols t)
+
+-- the decision on character q
+unfoldable pub characterAt : ℕ → List ℕ → ℕ → Character
+characterAt b tones q = decision (corr (countIn b (symbolsOf tones) q))
+
+-- the decisions on the b characters of a block
+unfoldable pub charactersOf : ℕ → List ℕ → List Character
+charactersOf b tones = tab (characterAt b tones) b
+
+unfoldable pub codesOf : List Character → List ℕ
+codesOf characters = map (λ c. c .code) characters
+
+abbrev pub none : Character
+none = record { code = 0; lead = 0 }
+
+abbrev pub leadIn : List Character → ℕ → ℕ
+leadIn characters q = getD characters q none .lead
+
+-- ---- the answer
+
+-- the lowest of the characters whose lead is under m, else their count
+unfoldable pub firstUnclear : ℕ → List Character → ℕ
+firstUnclear m characters = first (λ q. ltb (leadIn characters q) m) (length characters)
+
+-- 10 with the place and the lead of the lowest unclear character; if all are clear, the answer that is given for them
+unfoldable pub unlessUnclear : ℕ → List Character → Decoded → Decoded
+unlessUnclear m characters clear =
+    cond (ltb (firstUnclear m characters) (length characters))
+    (Refused (unclearAt (firstUnclear m characters) (leadIn characters (firstUnclear m characters))))
+    clear
+
+-- an answer's eight characters: those of the block, and none after them
+unfoldable pub padded : List Character → List Character
+padded characters = over characters (replicate 8 none)
+
+-- a refusal before any character is decided
+unfoldable pub refused : ℕ → ℕ → BlockDecoded
+refused number place = record { answer = Refused (refusedAt number place); characters = replicate 8 none }
+
+-- the answer for an output of room codes
+unfoldable pub decodeBlock : ℕ → ℕ → List ℕ → ℕ → BlockDecoded
+decodeBlock b m tones room =
+    cond (not (isMode b)) (refused 1 0)
+    (cond (not (isLead m)) (refused 2 0)
+    (cond (not (eqb (length tones) 64)) (refused 7 0)
+    (cond (ltb room b) (refused 9 0)
+    (cond (ltb (firstBadTone (2 ^ b) tones) 64) (refused 8 (firstBadTone (2 ^ b) tones))
+    (record { answer = unlessUnclear m (charactersOf b tones) (Text b); characters = padded (charactersOf b tones) })))))
+
+-- ---- the output
+
+-- after an answer: the first n codes at its front, or as it was
+unfoldable pub heardInto : Decoded → List ℕ → List ℕ → List ℕ
+heardInto (Text n) codes out = over (take n codes) out
+heardInto (Refused r) codes out = out
+
+unfoldable pub decodedInto : ℕ → ℕ → List ℕ → List ℕ → List ℕ
+decodedInto b m tones out = heardInto (decodeBlock b m tones (length out) .answer) (codesOf (charactersOf b tones)) out

@@ -1,0 +1,3 @@
+pub mod PartSymbols
+pub mod EncodeCases
+pub mod Ranges

@@ -1,0 +1,2 @@
+pub mod TextEnds
+pub mod TextCases

@@ -1,0 +1,128 @@
+-- What is answered to a block that breaks no limit: it is refused as unclear precisely when some lead is under m; m odd acts as m + 1.
+use mathlib.Core.Path.{_≡_, sym, _∙_, ap}
+use mathlib.Core.List.{List}
+use Prim.Native.Nat.{ℕ, _-_, _*_, _<_, _≤_, _%_, _^_}
+use native.Mathlib.Decide.{ℕ-discrete, decLt}
+use native.Mathlib.Omega.{arith}
+use borrow.Author.Tests.{lt-ltb, le-ltb, ltb-true, ltb-false, le-leb, lt-leb, eqb-false}
+use lib.Dec.{ltb}
+use lib.ListN.{length}
+use lib.Seq.{take-all}
+use Rattle.lists.specs.Lists.{num, over}
+use Rattle.lists.proofs.Places.{first-ext}
+use Rattle.lists.proofs.Tables.{is-tab}
+use Rattle.refusal.specs.Refused.{unclearAt}
+use Rattle.refusal.specs.Checks.{isLead, IsSet}
+use Rattle.walsh.specs.Words.{corr}
+use Rattle.walsh.specs.Decision.{decision}
+use Rattle.walsh.specs.declared.Character.{Character}
+use Rattle.walsh.proofs.Parities.{parity}
+use Rattle.tone_range.specs.Range.{HasTones}
+use Rattle.block_decoder.specs.Decoding.{symbolsOf, countIn, characterAt, charactersOf, codesOf, leadIn, firstUnclear, unlessUnclear, padded, decodeBlock, decodedInto}
+use Rattle.block_decoder.specs.declared.Decoded.the-variants.{Text, Refused}
+use Rattle.block_decoder.specs.declared.BlockDecoded.{BlockDecoded}
+use Rattle.block_decoder.proofs.Characters.{characters-length, character-at, same-lead, codes-are, codes-length}
+use Rattle.block_decoder.proofs.Clarity.{unclear-is, all-clear, clear-lead, unclear-told, clear-told}
+use Rattle.block_decoder.proofs.DecodeCases.{codes-kept, codes-written}
+use Rattle.block_decoder.proofs.Answers.{decided}
+use Rattle.demands.specs.Demand.{Gives, RefusesAsUnclear}
+use Rattle.demands.specs.Laws.{Precisely, Clear, OddLeads}
+
+module _ (b m : ℕ) (tones codes : List ℕ) (s : IsSet b m) (w : HasTones (2 ^ b) tones) (h : b ≤ length codes) where
+  abbrev characters : List Character
+  characters = charactersOf b tones
+
+  whole : decodeBlock b m tones (length codes) ≡ record { answer = unlessUnclear m characters (Text b); characters = padded characters }
+  whole = decided b m tones (length codes) s w h
+
+  count : length characters ≡ b
+  count = characters-length b tones
+
+  lead-decided : (q : ℕ) → q < b → leadIn (decodeBlock b m tones (length codes) .characters) q ≡ leadIn characters q
+  lead-decided q l = ap (λ (d : BlockDecoded). leadIn (d .characters) q) whole ∙ same-lead b tones q l
+
+  pub refuses : firstUnclear m characters < b → RefusesAsUnclear b m (decodeBlock b m tones (length codes)) codes (decodedInto b m tones codes)
+  refuses l =
+      let p = firstUnclear m characters in
+      let first = unclear-is m characters in
+      let answer : decodeBlock b m tones (length codes) .answer ≡ Refused (unclearAt p (leadIn characters p)) =
+      ap (λ (d : BlockDecoded). d .answer) whole ∙ unclear-told m characters (Text b) (omega (arith, count)) in
+      record {
+        place = p;
+        inside = l;
+        refused = answer ∙ ap (λ (n : ℕ). Refused (unclearAt p n)) (sym (lead-decided p l));
+        unclear = omega (arith, lead-decided p l, ltb-true (leadIn characters p) m (first .holds (omega (arith, count))));
+        lowest = λ q g. omega (arith, lead-decided q (omega arith), ltb-false (leadIn characters q) m (first .lowest q g));
+        kept = codes-kept b m tones codes answer;
+      }
+
+  pub accepts : length characters ≤ firstUnclear m characters → decodeBlock b m tones (length codes) .answer ≡ Text b
+  accepts l = ap (λ (d : BlockDecoded). d .answer) whole ∙ clear-told m characters (Text b) l
+
+  -- an accepted block whose decisions are the codes of a text gives it
+  pub gives : (text : List ℕ) → length text ≡ b → ((q : ℕ) → q < b → characterAt b tones q .code ≡ num text q) → length characters ≤ firstUnclear m characters
+      → Gives b text (decodeBlock b m tones (length codes)) codes (decodedInto b m tones codes)
+  gives text n f l = record {
+    accepted = accepts l;
+    written =
+        codes-written b m tones codes (accepts l)
+        ∙ ap (λ (x : List ℕ). over x codes)
+        (take-all b (codesOf characters) (omega (arith, codes-length b tones))
+        ∙ codes-are b tones
+        ∙ sym (is-tab (λ q. characterAt b tones q .code) 0 b text n (λ q g. sym (f q g))));
+  }
+
+  precisely : Precisely b m tones codes
+  precisely = record {
+    unclear = λ q l g. by q l g (decLt (firstUnclear m characters) b);
+    clear = λ f. accepts (all-clear m characters (λ q l. omega (arith, lead-decided q (omega (arith, count)), f q (omega (arith, count)))));
+  }
+    where
+      by : (q : ℕ) → q < b → leadIn (decodeBlock b m tones (length codes) .characters) q < m → Dec (firstUnclear m characters < b)
+          → RefusesAsUnclear b m (decodeBlock b m tones (length codes)) codes (decodedInto b m tones codes)
+      by q l g (yes k) = refuses k
+      by q l g (no n) = absurd (omega (arith, lead-decided q l, clear-lead m characters (omega (arith, count)) q (omega (arith, count))))
+
+pub clear : Clear
+clear = record { precisely = precisely }
+
+-- ---- odd leads
+
+lead-even : (b : ℕ) (tones : List ℕ) (q : ℕ) → characterAt b tones q .lead % 2 ≡ 0
+unfolding characterAt
+lead-even b tones q =
+    omega (arith, eqb-false (decision (corr (countIn b (symbolsOf tones) q)) .lead % 2) 1 (parity .leads (countIn b (symbolsOf tones) q)))
+
+module _ (k : ℕ) where
+  odd-test : (n : ℕ) → n % 2 ≡ 0 → ltb n (2 * k - 1) ≡ ltb n (2 * k)
+  odd-test n e = by (decLt n (2 * k))
+    where
+      by : Dec (n < 2 * k) → ltb n (2 * k - 1) ≡ ltb n (2 * k)
+      by (yes l) = lt-ltb n (2 * k - 1) (omega arith) ∙ sym (lt-ltb n (2 * k) l)
+      by (no g) = le-ltb n (2 * k - 1) (omega arith) ∙ sym (le-ltb n (2 * k) (omega arith))
+
+  odd-limit : isLead (2 * k - 1) ≡ isLead (2 * k)
+  odd-limit = by (ℕ-discrete k 0) (decLt k 33)
+    where
+      by : Dec (k ≡ 0) → Dec (k < 33) → isLead (2 * k - 1) ≡ isLead (2 * k)
+      by (yes e) d = rw e
+      by (no g) (yes l) = rw (le-leb 1 (2 * k - 1) (omega arith), le-leb (2 * k - 1) 64 (omega arith), le-leb 1 (2 * k) (omega arith), le-leb (2 * k) 64 (omega arith))
+      by (no g) (no l) = rw (le-leb 1 (2 * k - 1) (omega arith), lt-leb (2 * k - 1) 64 (omega arith), le-leb 1 (2 * k) (omega arith), lt-leb (2 * k) 64 (omega arith))
+
+  module _ (b : ℕ) (tones : List ℕ) where
+    odd-unclear : firstUnclear (2 * k - 1) (charactersOf b tones) ≡ firstUnclear (2 * k) (charactersOf b tones)
+    unfolding firstUnclear
+    odd-unclear =
+        rw (characters-length b tones)
+        (first-ext _ _ b (λ q l. odd-test (leadIn (charactersOf b tones) q) (ap (λ (c : Character). c .lead % 2) (character-at b tones q l) ∙ lead-even b tones q)))
+
+    odd-answer : unlessUnclear (2 * k - 1) (charactersOf b tones) (Text b) ≡ unlessUnclear (2 * k) (charactersOf b tones) (Text b)
+    unfolding unlessUnclear
+    odd-answer = rw odd-unclear
+
+    odd-as-even : (room : ℕ) → decodeBlock b (2 * k - 1) tones room ≡ decodeBlock b (2 * k) tones room
+    unfolding decodeBlock
+    odd-as-even room = rw (odd-limit, odd-answer)
+
+pub odd-leads : OddLeads
+odd-leads = record { even = λ b k. odd-as-even k b }

@@ -1,0 +1,9 @@
+use Rattle.demands.proofs.CleanTones.{clean}
+use Rattle.demands.proofs.laws.clean.Statement.{statement}
+use Rattle.demands.proofs.laws.clean.Tie as tie
+
+returns : tie.Need-returns
+returns c = clean
+
+pub clean-spec : {M : Type 1} → statement M
+clean-spec = tie.close (tie.spec returns)

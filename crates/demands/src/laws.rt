@@ -1,0 +1,23 @@
+// The laws of a block, stated in specs/Laws.antt and specs/Demand.antt. A function here does nothing: its promise is the law.
+ghost use Rattle.demands.specs.Laws.{RoundTrip, Clean, Clear, OddLeads};
+ghost use Rattle.demands.specs.Demand.{Demand3};
+
+pub fn round_trip()
+    ensures { λ _. ⌜ RoundTrip ⌝ }
+{}
+
+pub fn clean()
+    ensures { λ _. ⌜ Clean ⌝ }
+{}
+
+pub fn clear()
+    ensures { λ _. ⌜ Clear ⌝ }
+{}
+
+pub fn odd_leads()
+    ensures { λ _. ⌜ OddLeads ⌝ }
+{}
+
+pub fn demand3()
+    ensures { λ _. ⌜ Demand3 ⌝ }
+{}

@@ -1,9 +1,0 @@
-use Rattle.listing.proofs.Decimals.{numbers}
-use Rattle.listing.proofs.laws.numbers.Statement.{statement}
-use Rattle.listing.proofs.laws.numbers.Tie as tie
-
-returns : tie.Need-returns
-returns c = numbers
-
-pub numbers-spec : {M : Type 1} → statement M
-numbers-spec = tie.close (tie.spec returns)

@@ -1,9 +1,0 @@
-use Rattle.listing.proofs.LineReading.{reading}
-use Rattle.listing.proofs.laws.reading.Statement.{statement}
-use Rattle.listing.proofs.laws.reading.Tie as tie
-
-returns : tie.Need-returns
-returns c = reading
-
-pub reading-spec : {M : Type 1} → statement M
-reading-spec = tie.close (tie.spec returns)

@@ -1,9 +1,0 @@
-use Rattle.listing.proofs.Listings.{whole}
-use Rattle.listing.proofs.laws.whole.Statement.{statement}
-use Rattle.listing.proofs.laws.whole.Tie as tie
-
-returns : tie.Need-returns
-returns c = whole
-
-pub whole-spec : {M : Type 1} → statement M
-whole-spec = tie.close (tie.spec returns)

@@ -1,0 +1,3 @@
+pub mod Pieces
+pub mod Listings
+pub mod Computed

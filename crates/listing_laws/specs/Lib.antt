@@ -1,0 +1,2 @@
+pub mod Listed
+pub mod Laws

@@ -1,0 +1,4 @@
+pub mod Lists
+pub mod Sums
+pub mod Places
+pub mod Laws

@@ -1,4 +1,0 @@
-pub mod Blocks
-pub mod Encoding
-pub mod Decoding
-pub mod Laws

@@ -1,0 +1,4 @@
+pub mod ToneRanges
+pub mod DecodeCases
+pub mod HeardBlocks
+pub mod Hearing

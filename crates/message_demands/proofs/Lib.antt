@@ -1,0 +1,4 @@
+pub mod SentMessages
+pub mod Fillings
+pub mod RoundTrips
+pub mod CleanBlocks

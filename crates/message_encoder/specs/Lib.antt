@@ -1,0 +1,2 @@
+pub mod Blocks
+pub mod Encoding

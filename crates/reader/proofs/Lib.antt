@@ -1,0 +1,4 @@
+pub mod ReaderCases
+pub mod WordReading
+pub mod LineReading
+pub mod KeptSizes

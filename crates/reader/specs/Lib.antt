@@ -1,0 +1,3 @@
+pub mod Input
+pub mod Reader
+pub mod Laws

@@ -1,0 +1,4 @@
+pub mod TextBounds
+pub mod Elements
+pub mod Puts
+pub mod BlockTexts

@@ -1,0 +1,20 @@
+use borrow.Author.Needs.{needs}
+use Rattle.report.proofs.BlockTexts.{text-unclear, text-refused}
+use Rattle.report.proofs.Puts.{put-as}
+use Rattle.report.proofs.put_refusal.Statement.{statement}
+use Rattle.report.proofs.put_refusal.Tie as tie
+
+put-unclear-requires : tie.Need-put-unclear-requires
+put-unclear-requires c κs = search needs
+
+returns : tie.Need-returns
+returns c = put-as _ (text-unclear _ _ (c .before .before .if1 .taken)) (c .put-unclear .ensures)
+
+put-refused-requires : tie.Need-put-refused-requires
+put-refused-requires c κs = search needs
+
+returns-2 : tie.Need-returns-2
+returns-2 c = put-as _ (text-refused _ _ (c .before .before .if1 .left)) (c .put-refused .ensures)
+
+pub put-refusal-spec : {M : Type 1} → statement M
+put-refusal-spec = tie.close (tie.spec put-unclear-requires returns put-refused-requires returns-2)

@@ -1,0 +1,56 @@
+-- Signs put on whole numbers and on sums, and numbers near a positive one.
+use mathlib.Core.Path.{_≡_, refl, sym, ap}
+use mathlib.Core.Bool.{Bool, true, false}
+use Prim.Native.Nat.{ℕ, zero, suc, _+_, _≤_}
+use native.Mathlib.Omega.{arith}
+use lib.IntN.{ℤ, pos, negsuc, negℤ, natAbs, _+ℤ_, _-ℤ_, negℤ-negℤ, negℤ-+ℤ, +ℤ-idr}
+use Rattle.lists.specs.Sums.{sum}
+use Rattle.lists.proofs.Integers.{sub-cases, abs-neg}
+use Rattle.lists.proofs.Sums.{sum-neg}
+use Rattle.walsh.specs.Words.{signed, turned}
+
+pub abs-signed : (s : Bool) (x : ℤ) → natAbs (signed s x) ≡ natAbs x
+abs-signed true x = abs-neg x
+abs-signed false x = refl
+
+pub signed-add : (s : Bool) (x y : ℤ) → signed s (x +ℤ y) ≡ signed s x +ℤ signed s y
+signed-add true x y = negℤ-+ℤ x y
+signed-add false x y = refl
+
+pub signed-sub : (s : Bool) (x y : ℤ) → signed s (x -ℤ y) ≡ signed s x -ℤ signed s y
+signed-sub true x y = negℤ-+ℤ x (negℤ y)
+signed-sub false x y = refl
+
+pub signed-zero : (s : Bool) → signed s (pos 0) ≡ pos 0
+signed-zero true = refl
+signed-zero false = refl
+
+pub signed-twice : (s : Bool) (x : ℤ) → signed s (signed s x) ≡ x
+signed-twice true x = negℤ-negℤ x
+signed-twice false x = refl
+
+pub signed-turned : (a b : Bool) (x : ℤ) → signed (turned a b) x ≡ signed a (signed b x)
+signed-turned true true x = sym (negℤ-negℤ x)
+signed-turned true false x = refl
+signed-turned false b x = refl
+
+pub signed-swap : (a b : Bool) (x : ℤ) → signed a (signed b x) ≡ signed b (signed a x)
+signed-swap true true x = refl
+signed-swap true false x = refl
+signed-swap false b x = refl
+
+pub sum-signed : (n : ℕ) (s : Bool) (f : ℕ → ℤ) → sum n (λ t. signed s (f t)) ≡ signed s (sum n f)
+sum-signed n true f = sum-neg n f
+sum-signed n false f = refl
+
+-- ---- a number y that is at most D away from M
+
+pub near-large : (y : ℤ) (M D : ℕ) → natAbs (y -ℤ pos M) ≤ D → M ≤ natAbs y + D
+near-large y zero D h = omega arith
+near-large (pos a) (suc m) D h =
+    sub-cases (λ z. natAbs z ≤ D → suc m ≤ a + D) a (suc m) (λ l k. omega arith) (λ l k. omega arith) h
+near-large (negsuc a) (suc m) D h = omega arith
+
+pub near-negative : (a M D : ℕ) → natAbs (negsuc a -ℤ pos M) ≤ D → suc a + M ≤ D
+near-negative a zero D h = omega (arith, ap natAbs (+ℤ-idr (negsuc a)))
+near-negative a (suc m) D h = omega arith
