@@ -96,16 +96,16 @@ olivia_answer olivia_decode_message(uint32_t mode, uint32_t least_lead, const ui
  * width / 2^b. Checks 1, 3, 4, 8; the missing mark is no tone here. */
 olivia_hertz olivia_frequency(uint32_t mode, uint32_t width, uint32_t centre, uint16_t tone);
 
-/* Encodes the block text into tones, decodes the tones written into first, and decodes heard into second. Each
- * answer and output is that of the call of olivia_encode_block or olivia_decode_block; if encoding is refused,
- * no tone is sent. missing is the number u of marks in heard, and replaced the number r of places where another
- * tone than the one sent is heard, and no mark. If text is b codes below 128, heard is 64 tones below 2^b or
- * marks, and no setting or room is refused, then first is given text; second is given text if 64 - 2u - 4r is
- * at least the set lead; and if 2u + 4r is below 64 plus the set lead, second is given text or
- * refused with 10. */
+/* Encodes the block text into tones, decodes the tones written into one, and decodes heard into two. Each answer
+ * and output is that of the call of olivia_encode_block or olivia_decode_block; if encoding is refused, no tone
+ * is sent. missing is the number u of marks in heard, and replaced the number r of places where another tone
+ * than the one sent is heard, and no mark. If text is b codes below 128, heard is 64 tones below 2^b or marks,
+ * and no setting or room is refused, then the first receiver gives text, in one; the second gives text, in two,
+ * if 64 - 2u - 4r is at least the set lead; and if 2u + 4r is below 64 plus the set lead, the second gives text
+ * or refuses with 10. */
 olivia_trial olivia_trial_run(uint32_t mode, uint32_t least_lead, const uint8_t *text, size_t n,
                               const uint16_t *heard, size_t heard_n, uint16_t *tones, size_t tones_room,
-                              uint8_t *first, size_t first_room, uint8_t *second, size_t second_room);
+                              uint8_t *one, size_t one_room, uint8_t *two, size_t two_room);
 
 #ifdef __cplusplus
 }

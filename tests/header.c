@@ -79,17 +79,17 @@ static void trials(void)
 {
     const uint8_t text[2] = {64, 127};
     uint16_t heard[TONES], tones[TONES];
-    uint8_t first[2], second[2];
+    uint8_t one[2], two[2];
 
     olivia_encode_block(2, text, 2, heard, TONES);
     heard[3] = MISSING;
     heard[5] ^= 1;
     heard[7] ^= 2;
-    olivia_trial trial = olivia_trial_run(2, 16, text, 2, heard, TONES, tones, TONES, first, 2, second, 2);
+    olivia_trial trial = olivia_trial_run(2, 16, text, 2, heard, TONES, tones, TONES, one, 2, two, 2);
     check("a trial's answers",
           is(trial.encoded, 0, 0, 0, TONES) && is(trial.first, 0, 0, 0, 2) && is(trial.second, 0, 0, 0, 2));
     check("a trial's damage", trial.replaced == 2 && trial.missing == 1);
-    check("a trial's texts", memcmp(first, text, 2) == 0 && memcmp(second, text, 2) == 0);
+    check("a trial's texts", memcmp(one, text, 2) == 0 && memcmp(two, text, 2) == 0);
 }
 
 int main(void)

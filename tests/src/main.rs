@@ -2,14 +2,15 @@
 
 mod groups;
 
-use groups::{compare, demand3, sheet, vectors, Report};
+use groups::{cases, compare, demand3, sheet, vectors, Report};
 use std::process::ExitCode;
 
 type Group = (&'static str, fn() -> Report);
 
-const GROUPS: [Group; 4] = [
+const GROUPS: [Group; 5] = [
     ("vectors", vectors::run),
     ("sheet", sheet::run),
+    ("cases", cases::run),
     ("compare", compare::run),
     ("demand3", demand3::run),
 ];

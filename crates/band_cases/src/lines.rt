@@ -3,11 +3,27 @@
 use band::Band;
 use band::Planned;
 use band::Tuned;
-use case_printing::field;
-use case_printing::line_end;
-use case_printing::refused;
-use case_printing::text;
 use libc::STDOUT_FILENO;
+use refusal::Refusal;
+
+fn text(text: &[u8]) {
+    io::write_all(STDOUT_FILENO, text);
+}
+
+fn line_end() {
+    text(b"\n");
+}
+
+fn field(name: &[u8], number: u64) {
+    text(name);
+    io::print_decimal(STDOUT_FILENO, number);
+}
+
+fn refused(refusal: Refusal) {
+    field(b": refused ", refusal.number as u64);
+    field(b" place ", refusal.place as u64);
+    field(b" lead ", refusal.lead as u64);
+}
 
 fn settings(mode: u32, width: u32, centre: u32) {
     field(b"mode ", mode as u64);
@@ -45,7 +61,7 @@ pub fn band(mode: u32, width: u32, centre: u32) {
             hertz(b": edge ", band.edge);
             hertz(b" spacing ", band.spacing);
         }
-        Planned::Refused(refusal) => refused(b": refused ", refusal),
+        Planned::Refused(refusal) => refused(refusal),
     }
     line_end();
 }
@@ -56,7 +72,7 @@ pub fn frequency(mode: u32, width: u32, centre: u32, tone: u16) {
     let tuned = band::frequency(mode, width, centre, tone);
     match tuned {
         Tuned::Hertz(x) => hertz(b": ", x),
-        Tuned::Refused(refusal) => refused(b": refused ", refusal),
+        Tuned::Refused(refusal) => refused(refusal),
     }
     line_end();
 }

@@ -5,7 +5,7 @@ use Rattle.lists.specs.Lists.{tab, over}
 use Rattle.lists.specs.Sums.{total, sum}
 use Rattle.lists.specs.Places.{scan}
 use Rattle.walsh.specs.Words.{minus, corr}
-use Rattle.walsh.specs.Decision.{better, best, rival, leadOf, decisionFor, decision}
+use Rattle.decision.specs.Decision.{better, best, rival, leadOf, decisionFor, decision}
 use Rattle.chain.specs.Chain.{codeBit, keyBit, sentBit, weightAt, symbolAt, gray, toneAt, tonesOf}
 use Rattle.chain.specs.Tables.{symbolOf}
 use Rattle.tone_range.specs.Range.{firstBadTone}

@@ -12,7 +12,7 @@ use Rattle.lists.specs.Laws.{IsFirst}
 use Rattle.lists.proofs.Places.{first-is, first-none}
 use Rattle.refusal.specs.Refused.{unclearAt}
 use Rattle.refusal.specs.declared.Refusal.{Refusal}
-use Rattle.walsh.specs.declared.Character.{Character}
+use Rattle.decision.specs.declared.Character.{Character}
 use Rattle.block_decoder.specs.Decoding.{leadIn, firstUnclear, unlessUnclear}
 use Rattle.block_decoder.specs.declared.Decoded.{Decoded}
 use Rattle.block_decoder.specs.declared.Decoded.the-variants.{Text, Refused}

@@ -6,8 +6,8 @@ use Rattle.lists.specs.Lists.{tab, at}
 use Rattle.lists.proofs.Sums.{sum-ext}
 use Rattle.lists.proofs.Tables.{tab-at}
 use Rattle.walsh.specs.Words.{minus, signed, corr}
-use Rattle.walsh.specs.Decision.{decision}
-use Rattle.walsh.proofs.Choice.{decision-ext}
+use Rattle.decision.specs.Decision.{decision}
+use Rattle.decision.proofs.Choice.{decision-ext}
 
 -- the correlations rest on the 64 counts alone
 pub corr-ext : (f g : ℕ → ℤ) → ((t : ℕ) → t < 64 → f t ≡ g t) → (c : ℕ) → corr f c ≡ corr g c

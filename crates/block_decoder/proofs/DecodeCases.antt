@@ -9,7 +9,7 @@ use lib.ListN.{length, take}
 use Rattle.lists.specs.Lists.{tab, over}
 use Rattle.refusal.specs.Checks.{isMode, isLead}
 use Rattle.refusal.specs.declared.Refusal.{Refusal}
-use Rattle.walsh.specs.declared.Character.{Character}
+use Rattle.decision.specs.declared.Character.{Character}
 use Rattle.tone_range.specs.Range.{firstBadTone}
 use Rattle.block_decoder.specs.Decoding.{charactersOf, codesOf, firstUnclear, unlessUnclear, padded, refused, decodeBlock, heardInto, decodedInto}
 use Rattle.block_decoder.specs.Internal.{codeIn, judgementIn}

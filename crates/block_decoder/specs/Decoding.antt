@@ -10,8 +10,8 @@ use Rattle.lists.specs.Places.{first}
 use Rattle.refusal.specs.Refused.{refusedAt, unclearAt}
 use Rattle.refusal.specs.Checks.{isMode, isLead}
 use Rattle.walsh.specs.Words.{signed, corr, turned}
-use Rattle.walsh.specs.Decision.{decision}
-use Rattle.walsh.specs.declared.Character.{Character}
+use Rattle.decision.specs.Decision.{decision}
+use Rattle.decision.specs.declared.Character.{Character}
 use Rattle.chain.specs.Chain.{missingMark, bit, keyBit}
 use Rattle.chain.specs.Tables.{symbolOf}
 use Rattle.tone_range.specs.Range.{firstBadTone}

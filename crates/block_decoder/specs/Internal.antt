@@ -11,7 +11,7 @@ use Rattle.lists.specs.Lists.{num}
 use Rattle.lists.specs.Places.{first}
 use Rattle.refusal.specs.Refused.{unclearAt}
 use Rattle.walsh.specs.Words.{signed, turned}
-use Rattle.walsh.specs.declared.Character.{Character}
+use Rattle.decision.specs.declared.Character.{Character}
 use Rattle.chain.specs.Chain.{missingMark, bit}
 use Rattle.block_decoder.specs.Decoding.{none, leadIn}
 use Rattle.block_decoder.specs.declared.Decoded.{Decoded}

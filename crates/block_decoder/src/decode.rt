@@ -3,7 +3,7 @@ use super::interleaver;
 use chain::MISSING;
 use chain::gray;
 use chain::scrambler;
-use walsh::Character;
+use decision::Character;
 ghost use mathlib.Core.Path.{_≡_};
 ghost use mathlib.Core.Bool.{true};
 ghost use mathlib.Core.Logic.{_⊎_};
@@ -54,7 +54,7 @@ pub fn characters(mode: u32, tones: &[u16]) -> [Character; 8]
     let mut characters = [Character { code: 0, lead: 0 }; 8];
     let mut q: usize = 0;
     while q < b {
-        characters[q] = walsh::decide(interleaver::counts(q, &keys, &weights, &symbols));
+        characters[q] = decision::decide(interleaver::counts(q, &keys, &weights, &symbols));
         q += 1;
     }
     characters

@@ -1,7 +1,7 @@
 // One block of the published chain, decoded: document 01, "Hearing a block".
+use decision::Character;
 use refusal::Refusal;
 use refusal::checks;
-use walsh::Character;
 ghost use mathlib.Core.Path.{_≡_};
 ghost use Prim.Native.Nat.{_≤_};
 ghost use lib.ListN.{length};

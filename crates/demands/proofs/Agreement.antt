@@ -9,10 +9,10 @@ use Rattle.lists.specs.Sums.{sum}
 use Rattle.lists.proofs.Integers.{sub-cases, abs-add}
 use Rattle.lists.proofs.Sums.{abs-sum, total-within}
 use Rattle.walsh.specs.Words.{minus, signed, corr}
-use Rattle.walsh.specs.Decision.{negative, codeOf, decision}
-use Rattle.walsh.specs.Damage.{sent}
+use Rattle.decision.specs.Decision.{negative, codeOf, decision}
+use Rattle.damage.specs.Damage.{sent}
 use Rattle.walsh.proofs.Signed.{abs-signed, signed-twice}
-use Rattle.walsh.proofs.Choice.{decision-law}
+use Rattle.decision.proofs.Choice.{decision-law}
 
 sum-small : (n : ℕ) (f : ℕ → ℤ) → ((t : ℕ) → natAbs (f t) ≤ 1) → natAbs (sum n f) ≤ n
 sum-small n f h = omega (arith, abs-sum n f, total-within n 1 (λ t. natAbs (f t)) h)

@@ -14,9 +14,9 @@ use Rattle.lists.proofs.Tables.{is-tab}
 use Rattle.refusal.specs.Refused.{unclearAt}
 use Rattle.refusal.specs.Checks.{isLead, IsSet}
 use Rattle.walsh.specs.Words.{corr}
-use Rattle.walsh.specs.Decision.{decision}
-use Rattle.walsh.specs.declared.Character.{Character}
-use Rattle.walsh.proofs.Parities.{parity}
+use Rattle.decision.specs.Decision.{decision}
+use Rattle.decision.specs.declared.Character.{Character}
+use Rattle.decision.proofs.Parities.{parity}
 use Rattle.tone_range.specs.Range.{HasTones}
 use Rattle.block_decoder.specs.Decoding.{symbolsOf, countIn, characterAt, charactersOf, codesOf, leadIn, firstUnclear, unlessUnclear, padded, decodeBlock, decodedInto}
 use Rattle.block_decoder.specs.declared.Decoded.the-variants.{Text, Refused}

@@ -18,9 +18,9 @@ use Rattle.lists.proofs.Tables.{tab-at, is-tab}
 use Rattle.refusal.specs.Checks.{isMode}
 use Rattle.refusal.proofs.Limits.{mode-range}
 use Rattle.walsh.specs.Words.{signed, turned}
-use Rattle.walsh.specs.Decision.{codeOf}
-use Rattle.walsh.specs.Damage.{sent}
-use Rattle.walsh.specs.declared.Character.{Character}
+use Rattle.decision.specs.Decision.{codeOf}
+use Rattle.damage.specs.Damage.{sent}
+use Rattle.decision.specs.declared.Character.{Character}
 use Rattle.chain.specs.Chain.{missingMark, bit, codeBit, keyBit, sentBit, symbolAt, gray, toneAt, tonesOf}
 use Rattle.chain.specs.Tables.{symbolOf}
 use Rattle.chain.proofs.Xors.{turned-twice}

@@ -15,10 +15,10 @@ use Rattle.lists.proofs.Sums.{total-zero}
 use Rattle.lists.proofs.Tables.{tab-ext}
 use Rattle.refusal.specs.Checks.{isMode, IsSet}
 use Rattle.refusal.proofs.Limits.{mode-range, lead-range}
-use Rattle.walsh.specs.Laws.{Withstands}
-use Rattle.walsh.specs.declared.Character.{Character}
-use Rattle.walsh.proofs.Choice.{same-character}
-use Rattle.walsh.proofs.Drift.{damage-law}
+use Rattle.damage.specs.Laws.{Withstands}
+use Rattle.decision.specs.declared.Character.{Character}
+use Rattle.decision.proofs.Choice.{same-character}
+use Rattle.damage.proofs.Drift.{damage-law}
 use Rattle.chain.specs.Chain.{tonesOf}
 use Rattle.chain.proofs.Tones.{tones-length, tone-sent, tone-below}
 use Rattle.tone_range.specs.Range.{HasTones}

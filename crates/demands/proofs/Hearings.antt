@@ -15,8 +15,8 @@ use Rattle.lists.specs.Lists.{num}
 use Rattle.lists.proofs.Integers.{abs-sub}
 use Rattle.lists.proofs.Tables.{tab-at}
 use Rattle.walsh.specs.Words.{minus, signed, turned}
-use Rattle.walsh.specs.Decision.{codeOf}
-use Rattle.walsh.specs.Damage.{sent, damage}
+use Rattle.decision.specs.Decision.{codeOf}
+use Rattle.damage.specs.Damage.{sent, damage}
 use Rattle.walsh.proofs.Signed.{abs-signed}
 use Rattle.chain.specs.Chain.{bit, codeBit, keyBit, sentBit, symbolAt, toneAt, tonesOf, missingMark}
 use Rattle.chain.specs.Tables.{symbolOf}

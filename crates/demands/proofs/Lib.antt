@@ -1,7 +1,5 @@
-pub mod Tallies
 pub mod Hearings
 pub mod Agreement
 pub mod Answers
 pub mod Demands
-pub mod Trials
 pub mod CleanTones

@@ -13,12 +13,12 @@ use Rattle.refusal.specs.Refused.{unclearAt}
 use Rattle.refusal.specs.Checks.{IsSet}
 use Rattle.chain.specs.Chain.{missingMark, tonesOf}
 use Rattle.tone_range.specs.Range.{HasTones}
-use Rattle.block_encoder.specs.Encoding.{IsText, encodeBlock, encodedInto, onAir}
+use Rattle.block_encoder.specs.Encoding.{IsText, encodeBlock, encodedInto}
 use Rattle.block_encoder.specs.declared.Encoded.the-variants.{Tones}
 use Rattle.block_decoder.specs.Decoding.{leadIn, decodeBlock, decodedInto}
 use Rattle.block_decoder.specs.declared.Decoded.the-variants.{Text, Refused}
 use Rattle.block_decoder.specs.declared.BlockDecoded.{BlockDecoded}
-use Rattle.demands.specs.declared.trial.Trial.{Trial}
+use Rattle.demands.specs.declared.Trial.{Trial}
 
 -- ---- the damage
 
@@ -90,26 +90,3 @@ pub record Demand3 : Type 0 where
       tones (encodedInto b text tones)
       one (decodedInto b m (tonesOf b text) one)
       two (decodedInto b m heard two)
-
--- ---- the function that makes the three calls
-
--- what goes on the air for a text, by way of an output
-unfoldable pub air : ℕ → List ℕ → List ℕ → List ℕ
-air b text tones = onAir (encodeBlock b text (length tones)) (encodedInto b text tones)
-
-unfoldable pub trialOf : ℕ → ℕ → List ℕ → List ℕ → List ℕ → List ℕ → List ℕ → Trial
-trialOf b m text heard tones one two = record {
-  encoded = encodeBlock b text (length tones);
-  first = decodeBlock b m (air b text tones) (length one);
-  second = decodeBlock b m heard (length two);
-  replaced = replacedIn (air b text tones) heard;
-  missing = missingIn heard;
-}
-
--- its promise: the whole answer and every output, and demand 3 of them
-pub record Tried (b m : ℕ) (text heard : List ℕ) (t : Trial) (tones tones′ one one′ two two′ : List ℕ) : Type 0 where
-  pub answers : t ≡ trialOf b m text heard tones one two
-  pub sent : tones′ ≡ encodedInto b text tones
-  pub first-heard : one′ ≡ decodedInto b m (air b text tones) one
-  pub second-heard : two′ ≡ decodedInto b m heard two
-  pub demand : Covered b m text heard tones one two → MeetsDemand3 b m text t tones tones′ one one′ two two′

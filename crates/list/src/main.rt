@@ -1,9 +1,9 @@
 // Lists the blocks whose tones come on standard input: document 01, "The listing program".
 use libc::STDIN_FILENO;
 use libc::STDOUT_FILENO;
-use listing::Listing;
 use reader::TONES;
 use report::ROOM;
+use stages::Listing;
 ghost use Prim.Native.Nat.{_≤_};
 ghost use lib.ListN.{length};
 
@@ -25,7 +25,7 @@ fn print(text: &[u8], count: usize) -> bool
 }
 
 fn begin(out: &mut [u8; ROOM]) -> Heard {
-    let begun = listing::begin(out);
+    let begun = stages::begin(out);
     let listing = begun.listing;
     Heard {
         listing,
@@ -54,7 +54,7 @@ fn hear_piece(
     }
     Heard {
         listing: now,
-        goes_on: !listing::is_stopped(now),
+        goes_on: !stages::is_stopped(now),
     }
 }
 
@@ -62,7 +62,7 @@ fn finish(listing: Listing, tones: &mut [u16; TONES], out: &mut [u8; ROOM]) {
     let last = listing::last_line(listing, tones, out);
     if print(out, last.written) {
         let after = last.listing;
-        let written = listing::finish(after, out);
+        let written = stages::finish(after, out);
         print(out, written);
     }
 }

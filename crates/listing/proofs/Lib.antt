@@ -1,2 +1,1 @@
 pub mod StageCases
-pub mod Tellings

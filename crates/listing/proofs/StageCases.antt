@@ -14,10 +14,11 @@ use Rattle.refusal.specs.Checks.{isMode, isLead}
 use Rattle.refusal.specs.Refused.{refusedAt}
 use Rattle.block_decoder.specs.Decoding.{decodeBlock}
 use Rattle.block_decoder.specs.declared.BlockDecoded.{BlockDecoded}
-use Rattle.listing.specs.declared.Listing.{Listing}
-use Rattle.listing.specs.declared.Stage.the-variants.{Settings, Blocks, Stopped}
+use Rattle.stages.specs.declared.Listing.{Listing}
+use Rattle.stages.specs.declared.Stage.the-variants.{Settings, Blocks, Stopped}
 use Rattle.report.specs.Output.{blockText, refusedText, unreadableText}
-use Rattle.listing.specs.Stages.{hearing, stops, checkedSaid, settingsSaid, decodedSaid, blockSaid, judged, closed, withinLine, stepped, steppedTones, lastLine, goesOn}
+use Rattle.stages.specs.Stages.{hearing, stops}
+use Rattle.listing.specs.Steps.{checkedSaid, settingsSaid, decodedSaid, blockSaid, judged, closed, withinLine, stepped, steppedTones, lastLine, goesOn}
 
 module _ (b m : ℕ) where
   pub says-mode : isMode b ≡ false → checkedSaid b m ≡ stops (refusedText (refusedAt 1 0))

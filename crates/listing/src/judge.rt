@@ -1,7 +1,4 @@
 // A line that was read to its end: what is printed of it, and how the listing goes on.
-use super::Listing;
-use super::Progress;
-use super::Stage;
 use block_decoder::BlockDecoded;
 use block_decoder::Decoded;
 use reader::Line;
@@ -10,6 +7,9 @@ use reader::Word;
 use refusal::Refusal;
 use refusal::checks;
 use report::ROOM;
+use stages::Listing;
+use stages::Progress;
+use stages::Stage;
 ghost use mathlib.Core.Path.{_≡_};
 ghost use mathlib.Core.Bool.{_&&_};
 ghost use Prim.Native.Nat.{_≤_};
@@ -20,7 +20,8 @@ ghost use Rattle.refusal.specs.Refused.{refusedAt};
 ghost use Rattle.reader.specs.Reader.{isRead, endTones};
 ghost use Rattle.report.specs.Output.{refusedText};
 ghost use Rattle.block_decoder.specs.Decoding.{decodeBlock};
-ghost use Rattle.listing.specs.Stages.{told, hearing, stopped, stops, checkedSaid, settingsSaid, decodedSaid, blockSaid, closed, goesOn};
+ghost use Rattle.stages.specs.Stages.{told, hearing, stopped, stops};
+ghost use Rattle.listing.specs.Steps.{checkedSaid, settingsSaid, decodedSaid, blockSaid, closed, goesOn};
 
 // The end of a line.
 pub fn close(listing: Listing, tones: &mut [u16; TONES], out: &mut [u8; ROOM]) -> Progress

@@ -7,7 +7,7 @@ use Rattle.text.specs.Decimal.{valueFrom, digits, decimal}
 use Rattle.reader.specs.Input.{onFirst, lines, parts, words, isNumber, isMark, isWord, isReadableFirst, isReadable, valueOf, valuesOf}
 use Rattle.lists.specs.Sums.{sum}
 use Rattle.walsh.specs.Words.{minus, corr}
-use Rattle.walsh.specs.Decision.{better, best, rival, leadOf, decisionFor, decision}
+use Rattle.decision.specs.Decision.{better, best, rival, leadOf, decisionFor, decision}
 use Rattle.lists.specs.Places.{scan}
 use Rattle.chain.specs.Chain.{keyBit, gray}
 use Rattle.chain.specs.Tables.{symbolOf}

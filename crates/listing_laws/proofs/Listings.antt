@@ -20,10 +20,11 @@ use Rattle.refusal.specs.Refused.{refusedAt}
 use Rattle.block_decoder.specs.Decoding.{decodeBlock}
 use Rattle.block_decoder.specs.declared.BlockDecoded.{BlockDecoded}
 use Rattle.block_decoder.proofs.DecodeCases.{refuses-count}
-use Rattle.listing.specs.declared.Listing.{Listing}
+use Rattle.stages.specs.declared.Listing.{Listing}
 use Rattle.report.specs.Output.{heading, blockText, refusedText, unreadableText}
 use Rattle.listing_laws.specs.Listed.{heard, blocksListed, checkedListed, linesListed, listed}
-use Rattle.listing.specs.Stages.{Said, begun, hearing, stopped, stops, checkedSaid, settingsSaid, decodedSaid, blockSaid, judged, closed, endingText, lastLine, finished, printed, goesOn}
+use Rattle.stages.specs.Stages.{Said, begun, hearing, stopped, stops, endingText}
+use Rattle.listing.specs.Steps.{checkedSaid, settingsSaid, decodedSaid, blockSaid, judged, closed, lastLine, finished, printed, goesOn}
 use Rattle.listing_laws.specs.Laws.{Whole}
 use Rattle.listing_laws.proofs.Pieces.{lineRead, tonesRead, lineSaid, lineTones, fromLines, printed-lines, stopped-lines, silent}
 

@@ -14,10 +14,11 @@ use Rattle.reader.specs.Reader.{fresh, isEmpty, isBlank, nextLine, nextTones, l
 use Rattle.reader.proofs.LineReading.{next-not-blank}
 use Rattle.refusal.specs.Checks.{isMode, isLead}
 use Rattle.block_decoder.specs.Decoding.{decodeBlock}
-use Rattle.listing.specs.declared.Stage.{Stage}
-use Rattle.listing.specs.declared.Stage.the-variants.{Settings, Blocks, Stopped}
-use Rattle.listing.specs.declared.Listing.{Listing}
-use Rattle.listing.specs.Stages.{Said, stopped, isStopped, takesMarks, checkedSaid, settingsSaid, decodedSaid, blockSaid, judged, closed, withinLine, stepped, steppedTones, endingText, lastLine, finished, printed, goesOn}
+use Rattle.stages.specs.declared.Stage.{Stage}
+use Rattle.stages.specs.declared.Stage.the-variants.{Settings, Blocks, Stopped}
+use Rattle.stages.specs.declared.Listing.{Listing}
+use Rattle.stages.specs.Stages.{Said, stopped, isStopped, endingText}
+use Rattle.listing.specs.Steps.{takesMarks, checkedSaid, settingsSaid, decodedSaid, blockSaid, judged, closed, withinLine, stepped, steppedTones, lastLine, finished, printed, goesOn}
 use Rattle.listing.proofs.StageCases.{closes-stopped, closes-last}
 
 -- ---- line by line

@@ -5,10 +5,11 @@ use mathlib.Core.Path.{_≡_}
 use Prim.Native.Nat.{ℕ, _<_, _^_}
 use lib.ListN.{length}
 use Rattle.text.specs.Ascii.{ascii}
-use Rattle.listing.specs.declared.Listing.{Listing}
+use Rattle.stages.specs.declared.Listing.{Listing}
 use Rattle.report.specs.Output.{heading}
 use Rattle.listing_laws.specs.Listed.{listed}
-use Rattle.listing.specs.Stages.{begun, isStopped, printed}
+use Rattle.stages.specs.Stages.{begun, isStopped}
+use Rattle.listing.specs.Steps.{printed}
 
 -- what is printed for an input of any bytes, byte by byte, is the listing of the whole; a listing that stopped prints nothing more
 pub record Whole : Type 0 where

@@ -9,7 +9,7 @@ use Rattle.refusal.specs.Refused.{refusedAt}
 use Rattle.block_decoder.specs.Decoding.{decodeBlock}
 use Rattle.block_decoder.specs.declared.BlockDecoded.{BlockDecoded}
 use Rattle.report.specs.Output.{heading, blockText, refusedText, unreadableText, endText}
-use Rattle.listing.specs.Stages.{goesOn}
+use Rattle.listing.specs.Steps.{goesOn}
 
 -- hearing the tones of a line, with room for any block's codes
 unfoldable pub heard : ℕ → ℕ → List ℕ → BlockDecoded

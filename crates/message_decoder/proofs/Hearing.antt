@@ -16,7 +16,7 @@ use Rattle.lists.proofs.Places.{first-at}
 use Rattle.refusal.specs.Refused.{unclearAt}
 use Rattle.refusal.specs.Checks.{IsSet}
 use Rattle.refusal.specs.declared.Refusal.{Refusal}
-use Rattle.walsh.specs.declared.Character.{Character}
+use Rattle.decision.specs.declared.Character.{Character}
 use Rattle.tone_range.specs.Range.{HasTones}
 use Rattle.block_decoder.specs.Decoding.{charactersOf, codesOf, leadIn, firstUnclear, unlessUnclear, decodeBlock, decodedInto}
 use Rattle.block_decoder.specs.declared.Decoded.{Decoded}

@@ -7,7 +7,7 @@ use lib.ListN.{length}
 use Rattle.lists.specs.Lists.{joined}
 use Rattle.refusal.specs.Refused.{refusedAt}
 use Rattle.refusal.specs.Checks.{isMode, isLead}
-use Rattle.walsh.specs.declared.Character.{Character}
+use Rattle.decision.specs.declared.Character.{Character}
 use Rattle.tone_range.specs.Range.{firstBadTone}
 use Rattle.block_decoder.specs.Decoding.{charactersOf, codesOf, unlessUnclear, heardInto}
 use Rattle.block_decoder.specs.declared.Decoded.{Decoded}

@@ -11,7 +11,7 @@ use Rattle.lists.proofs.Fronts.{take-over}
 use Rattle.lists.proofs.Joins.{joined-ext, joined-length, joined-at, joined-each}
 use Rattle.lists.proofs.Tables.{is-tab}
 use Rattle.refusal.proofs.Limits.{mode-range}
-use Rattle.walsh.specs.declared.Character.{Character}
+use Rattle.decision.specs.declared.Character.{Character}
 use Rattle.chain.specs.Chain.{tonesOf}
 use Rattle.tone_range.specs.Range.{HasTones}
 use Rattle.block_encoder.specs.declared.Encoded.the-variants.{Tones}

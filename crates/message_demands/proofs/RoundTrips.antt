@@ -11,7 +11,7 @@ use Rattle.lists.proofs.Joins.{joined-ext, joined-tab}
 use Rattle.lists.proofs.Tables.{tab-length, tab-at, tab-ext, tab-map, tab-take, tab-self}
 use Rattle.refusal.specs.Checks.{IsSet}
 use Rattle.refusal.proofs.Limits.{mode-range, lead-range}
-use Rattle.walsh.specs.declared.Character.{Character}
+use Rattle.decision.specs.declared.Character.{Character}
 use Rattle.block_encoder.specs.Encoding.{onAir, countSent}
 use Rattle.block_encoder.specs.declared.Encoded.the-variants.{Tones}
 use Rattle.block_decoder.specs.Decoding.{none, leadIn, characterAt, charactersOf, codesOf, firstUnclear, unlessUnclear}

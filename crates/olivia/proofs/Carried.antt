@@ -12,7 +12,7 @@ use Rattle.refusal.specs.Refused.{refusedAt}
 use Rattle.refusal.specs.Checks.{isMode, isLead}
 use Rattle.refusal.specs.declared.Refusal.{Refusal}
 use Rattle.refusal.proofs.Limits.{mode-range}
-use Rattle.walsh.specs.declared.Character.{Character}
+use Rattle.decision.specs.declared.Character.{Character}
 use Rattle.tone_range.specs.Range.{firstBadTone}
 use Rattle.block_encoder.specs.Encoding.{firstBadCode, encodeBlock}
 use Rattle.block_encoder.specs.declared.Encoded.{Encoded}

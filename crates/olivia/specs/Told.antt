@@ -4,15 +4,15 @@ use mathlib.Core.List.{List}
 use Prim.Native.Nat.{ℕ, min}
 use Rattle.lists.specs.Lists.{tab}
 use Rattle.refusal.specs.declared.Refusal.{Refusal}
-use Rattle.walsh.specs.declared.Character.{Character}
+use Rattle.decision.specs.declared.Character.{Character}
 use Rattle.block_encoder.specs.declared.Encoded.{Encoded}
 use Rattle.block_encoder.specs.declared.Encoded.the-variants as encoded
 use Rattle.block_decoder.specs.Decoding.{leadIn}
 use Rattle.block_decoder.specs.declared.Decoded.{Decoded}
 use Rattle.block_decoder.specs.declared.Decoded.the-variants as decoded
 use Rattle.block_decoder.specs.declared.BlockDecoded.{BlockDecoded}
-use Rattle.demands.specs.Demand.{trialOf, Tried}
-use Rattle.demands.specs.declared.trial.Trial.{Trial}
+use Rattle.demands.specs.declared.Trial.{Trial}
+use Rattle.trial.specs.Tried.{trialOf, Tried}
 use Rattle.band.specs.Exact.{scaled}
 use Rattle.band.specs.declared.Tuned.{Tuned}
 use Rattle.band.specs.declared.Tuned.the-variants as tuned

@@ -118,7 +118,7 @@ pub extern "C" fn olivia_frequency(mode: u32, width: u32, centre: u32, tone: u16
     }
 }
 
-// The promise of demands::trial::run, of the answers as C is told them.
+// The promise of trial::run, of the answers as C is told them.
 #[no_mangle]
 pub extern "C" fn olivia_trial_run(
     mode: u32,
@@ -131,7 +131,7 @@ pub extern "C" fn olivia_trial_run(
 ) -> TrialAnswers
     ensures { λ r. ⌜ TriedForC mode «least_lead» (now (text .entry)) (now (heard .entry)) r (now (tones .entry)) (now (tones .exit)) (now (one .entry)) (now (one .exit)) (now (two .entry)) (now (two .exit)) ⌝ }
 {
-    let trial = demands::trial::run(mode, least_lead, text, heard, tones, one, two);
+    let trial = trial::run(mode, least_lead, text, heard, tones, one, two);
     let encoded = trial.encoded;
     let first = trial.first;
     let second = trial.second;
@@ -190,7 +190,7 @@ fn told_decoded(answer: Decoded) -> Answer
     }
 }
 
-fn leads_of(characters: [walsh::Character; 8]) -> [u32; 8]
+fn leads_of(characters: [decision::Character; 8]) -> [u32; 8]
     ensures { λ r. ⌜ r ≡ leadsOf characters ⌝ }
 {
     let mut leads = [0u32; 8];

@@ -7,8 +7,8 @@ use denote.Shadow.{shadow}
 use denote.Struct.Declared.{row}
 use lib.ListN.{getD}
 use mir.Val.{Val}
-use Rattle.walsh.specs.declared.Character.{Character}
-use Rattle.walsh.proofs.Character.{the-type}
+use Rattle.decision.specs.declared.Character.{Character}
+use Rattle.decision.proofs.Character.{the-type}
 use Rattle.block_decoder.specs.Decoding.{none}
 use Rattle.report.proofs.TextBounds.{Small}
 

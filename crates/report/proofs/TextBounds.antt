@@ -6,7 +6,7 @@ use lib.ListN.{length, getD, length-append}
 use Rattle.text.specs.Ascii.{lineFeed, space}
 use Rattle.text.specs.Decimal.{decimal}
 use Rattle.text.proofs.Decimals.{decimal-short}
-use Rattle.walsh.specs.declared.Character.{Character}
+use Rattle.decision.specs.declared.Character.{Character}
 use Rattle.block_decoder.specs.Decoding.{none}
 use Rattle.report.specs.Output.{field, placeText, characterText, charactersText}
 

@@ -7,7 +7,7 @@ use lib.ListN.{getD}
 use Rattle.text.specs.Ascii.{ascii, lineFeed, space}
 use Rattle.text.specs.Decimal.{decimal}
 use Rattle.refusal.specs.declared.Refusal.{Refusal}
-use Rattle.walsh.specs.declared.Character.{Character}
+use Rattle.decision.specs.declared.Character.{Character}
 use Rattle.block_decoder.specs.Decoding.{none}
 use Rattle.block_decoder.specs.declared.Decoded.{Decoded}
 use Rattle.block_decoder.specs.declared.BlockDecoded.{BlockDecoded}

@@ -7,19 +7,12 @@ ghost use mathlib.Core.Path.{_≡_};
 ghost use Prim.Native.Nat.{min};
 ghost use lib.ListN.{length};
 ghost use Rattle.lists.specs.Lists.{over};
-ghost use Rattle.report.specs.Output.{heading, refusalText, blockText, refusedText, unreadableText, endText};
+ghost use Rattle.report.specs.Output.{refusalText, blockText, refusedText, unreadableText, endText};
 
 mod lines;
 
 // The bytes that a text has room for: eight lines of four numbers take 672 at most, and no other text more.
 pub const ROOM: usize = 1024;
-
-pub fn put_heading(out: &mut [u8; ROOM]) -> usize
-    ensures answer { λ r. ⌜ r ≡ length heading ⌝ }
-    ensures output { λ _. ⌜ now (out .exit) ≡ over heading (now (out .entry)) ⌝ }
-{
-    text::put_text(b"BLOCK CHAR CODE LEAD\n", out)
-}
 
 // What is said of a block that was decoded: a line for each character, or the line of the refusal.
 pub fn put_block(block: u64, decoded: BlockDecoded, out: &mut [u8; ROOM]) -> usize

@@ -1,8 +1,8 @@
 // Fields and lines, put at the front of what is lent. A number has 20 digits at most, and each function asks for the room of its longest text.
+use decision::Character;
 use refusal::Refusal;
 use text::LINE_FEED;
 use text::SPACE;
-use walsh::Character;
 ghost use mathlib.Core.Path.{_≡_};
 ghost use mathlib.Core.List.{_++_};
 ghost use Prim.Native.Nat.{_+_, _≤_};

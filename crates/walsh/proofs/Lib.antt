@@ -2,10 +2,6 @@ pub mod Signed
 pub mod Signs
 pub mod Orthogonal
 pub mod Butterflies
-pub mod Choice
-pub mod Parities
-pub mod Drift
 pub mod Locals
 pub mod Halves
 pub mod Sizes
-pub mod Passes

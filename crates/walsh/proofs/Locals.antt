@@ -1,23 +1,18 @@
--- What a signed local reads back: numbers, sums, differences, magnitudes and the test of the sign.
-use mathlib.Core.Path.{_≡_, refl, sym, _∙_, ap, ap₂, subst}
-use mathlib.Core.Bool.{true, false}
+-- What a signed local reads back: numbers, sums and differences.
+use mathlib.Core.Path.{_≡_, _∙_, ap₂}
 use mathlib.Core.List.{List, [], _∷_}
 use Prim.Native.Nat.{ℕ, zero, suc, _≤_}
-use native.Mathlib.Nat.{not-suc-le-zero}
 use native.Mathlib.Omega.{arith}
 use denote.Array.{each}
 use denote.Signed.{SInt}
 use denote.Shadow.{shadow}
-use borrow.Author.Tests.{ltb-true}
-use lib.Dec.{T}
-use lib.IntN.{ℤ, pos, negsuc, negℤ, natAbs, _+ℤ_, _-ℤ_, +ℤ-idl}
-use lib.Signed.{ltZ, nonNeg, natAbs-le}
+use lib.IntN.{ℤ, pos, negsuc, natAbs, _+ℤ_, _-ℤ_}
+use lib.Signed.{natAbs-le}
 use mir.Syntax.{w8, w32}
 use mir.Val.{Val, SFits, toZ, ofZ}
 use mir.Facts.{toZ-ofZ}
 use Rattle.lists.specs.Lists.{at}
 use Rattle.lists.proofs.Integers.{abs-add, abs-sub}
-use Rattle.walsh.specs.Decision.{negative}
 
 -- every number of the transform is at most 64 times the magnitude of an i8
 pub fits : (z : ℤ) → natAbs z ≤ 8192 → SFits w32 z
@@ -33,33 +28,6 @@ each-within [] us i p = omega arith
 each-within (x ∷ xs) [] i p = absurd p
 each-within (x ∷ xs) (u ∷ us) zero p = natAbs-le x (p .0 .1)
 each-within (x ∷ xs) (u ∷ us) (suc i) p = each-within xs us i (p .1)
-
--- ---- the test of the sign
-
-pub below-zero : (z : ℤ) → ltZ z (pos 0) ≡ true → negative z ≡ true
-below-zero (pos n) e = absurd (not-suc-le-zero (ltb-true n 0 e))
-below-zero (negsuc n) e = refl
-
-pub not-below-zero : (z : ℤ) → ltZ z (pos 0) ≡ false → negative z ≡ false
-not-below-zero (pos n) e = refl
-not-below-zero (negsuc n) e = absurd (subst T e tt)
-
--- ---- the magnitude by negation
-
-module _ (v : ℤ) (h : natAbs v ≤ 8192) where
-  pub negation-fits : SFits w32 (pos 0 -ℤ toZ w32 (ofZ w32 v))
-  negation-fits = rw (reads v h) (fits (pos 0 -ℤ v) (omega (arith, abs-sub (pos 0) v)))
-
-  pub negation : toZ w32 (ofZ w32 (pos 0 -ℤ toZ w32 (ofZ w32 v))) ≡ negℤ v
-  negation = toZ-ofZ negation-fits ∙ ap (λ (z : ℤ). pos 0 -ℤ z) (reads v h) ∙ +ℤ-idl (negℤ v)
-
-pub non-negative : (v : ℤ) → negative v ≡ false → T (nonNeg v)
-non-negative (pos n) e = tt
-non-negative (negsuc n) e = absurd (subst T e tt)
-
-pub turned-non-negative : (v : ℤ) → negative v ≡ true → T (nonNeg (negℤ v))
-turned-non-negative (pos n) e = absurd (subst T (sym e) tt)
-turned-non-negative (negsuc n) e = tt
 
 -- ---- the sum and the difference of two numbers of a step
 

@@ -1,11 +1,10 @@
--- Signs put on whole numbers and on sums, and numbers near a positive one.
-use mathlib.Core.Path.{_≡_, refl, sym, ap}
+-- Signs put on whole numbers and on sums.
+use mathlib.Core.Path.{_≡_, refl, sym}
 use mathlib.Core.Bool.{Bool, true, false}
-use Prim.Native.Nat.{ℕ, zero, suc, _+_, _≤_}
-use native.Mathlib.Omega.{arith}
-use lib.IntN.{ℤ, pos, negsuc, negℤ, natAbs, _+ℤ_, _-ℤ_, negℤ-negℤ, negℤ-+ℤ, +ℤ-idr}
+use Prim.Native.Nat.{ℕ}
+use lib.IntN.{ℤ, pos, negℤ, natAbs, _+ℤ_, _-ℤ_, negℤ-negℤ, negℤ-+ℤ}
 use Rattle.lists.specs.Sums.{sum}
-use Rattle.lists.proofs.Integers.{sub-cases, abs-neg}
+use Rattle.lists.proofs.Integers.{abs-neg}
 use Rattle.lists.proofs.Sums.{sum-neg}
 use Rattle.walsh.specs.Words.{signed, turned}
 
@@ -42,15 +41,3 @@ signed-swap false b x = refl
 pub sum-signed : (n : ℕ) (s : Bool) (f : ℕ → ℤ) → sum n (λ t. signed s (f t)) ≡ signed s (sum n f)
 sum-signed n true f = sum-neg n f
 sum-signed n false f = refl
-
--- ---- a number y that is at most D away from M
-
-pub near-large : (y : ℤ) (M D : ℕ) → natAbs (y -ℤ pos M) ≤ D → M ≤ natAbs y + D
-near-large y zero D h = omega arith
-near-large (pos a) (suc m) D h =
-    sub-cases (λ z. natAbs z ≤ D → suc m ≤ a + D) a (suc m) (λ l k. omega arith) (λ l k. omega arith) h
-near-large (negsuc a) (suc m) D h = omega arith
-
-pub near-negative : (a M D : ℕ) → natAbs (negsuc a -ℤ pos M) ≤ D → suc a + M ≤ D
-near-negative a zero D h = omega (arith, ap natAbs (+ℤ-idr (negsuc a)))
-near-negative a (suc m) D h = omega arith

@@ -1,5 +1,6 @@
 //! The groups of tests, and what they share. A group answers with its lines for the report, or with the first difference.
 
+pub mod cases;
 pub mod compare;
 mod damage;
 pub mod demand3;

@@ -1,5 +1,5 @@
 use borrow.Author.Needs.{needs}
-use Rattle.listing.proofs.Tellings.{tells-fits}
+use Rattle.stages.proofs.Tellings.{tells-fits}
 use Rattle.list.proofs.begin.Statement.{statement}
 use Rattle.list.proofs.begin.Tie as tie
 

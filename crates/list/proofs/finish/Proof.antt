@@ -1,6 +1,6 @@
 use borrow.Author.Needs.{needs}
 use Rattle.lists.proofs.Fronts.{over-fits}
-use Rattle.listing.proofs.Tellings.{tells-fits}
+use Rattle.stages.proofs.Tellings.{tells-fits}
 use Rattle.list.proofs.finish.Statement.{statement}
 use Rattle.list.proofs.finish.Tie as tie
 

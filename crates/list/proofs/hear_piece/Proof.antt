@@ -2,7 +2,7 @@ use Prim.Native.Nat.{_≤_, _-_}
 use native.Mathlib.Omega.{arith}
 use borrow.Author.Needs.{needs}
 use lib.ListN.{length}
-use Rattle.listing.proofs.Tellings.{tells-fits}
+use Rattle.stages.proofs.Tellings.{tells-fits}
 use Rattle.list.proofs.hear_piece.Statement.{statement}
 use Rattle.list.proofs.hear_piece.Tie as tie
 

@@ -1,7 +1,7 @@
 use borrow.Author.Needs.{needs}
 use mathlib.Core.Path.{sym, refl, _∙_}
 use Rattle.listing.proofs.StageCases.{nothing-last, closes-last}
-use Rattle.listing.proofs.Tellings.{tells-as, tells-nothing}
+use Rattle.stages.proofs.Tellings.{tells-as, tells-nothing}
 use Rattle.listing.proofs.last_line.Statement.{statement}
 use Rattle.listing.proofs.last_line.Tie as tie
 

@@ -3,9 +3,9 @@ use mathlib.Core.Path.{sym, ap, _∙_}
 use mathlib.Core.Bool.{Bool}
 use Rattle.reader.specs.declared.Line.{Line}
 use Rattle.reader.specs.Reader.{nextLine}
-use Rattle.listing.specs.Stages.{withinLine}
+use Rattle.listing.specs.Steps.{withinLine}
 use Rattle.listing.proofs.StageCases.{says-line-feed, says-byte}
-use Rattle.listing.proofs.Tellings.{tells-as, tells-nothing}
+use Rattle.stages.proofs.Tellings.{tells-as, tells-nothing}
 use Rattle.listing.proofs.step.Statement.{statement}
 use Rattle.listing.proofs.step.Tie as tie
 

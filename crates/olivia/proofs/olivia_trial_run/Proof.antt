@@ -1,5 +1,5 @@
 use borrow.Author.Needs.{needs}
-use Rattle.demands.specs.Demand.{trialOf}
+use Rattle.trial.specs.Tried.{trialOf}
 use Rattle.olivia.specs.Told.{trialTold}
 use Rattle.olivia.proofs.Carried.{block-sent-small, block-heard-small}
 use Rattle.olivia.proofs.olivia_trial_run.Statement.{statement}

@@ -9,7 +9,7 @@ use Rattle.lists.specs.Lists.{tab, at, over}
 use Rattle.lists.proofs.Fronts.{over-start, over-set}
 use Rattle.refusal.proofs.Limits.{mode-range}
 use Rattle.walsh.specs.Words.{corr}
-use Rattle.walsh.specs.Decision.{decision}
+use Rattle.decision.specs.Decision.{decision}
 use Rattle.chain.proofs.Weights.{mode-weights}
 use Rattle.block_decoder.specs.Decoding.{countIn, none, characterAt, charactersOf, padded}
 use Rattle.block_decoder.proofs.Decisions.{table-decision}

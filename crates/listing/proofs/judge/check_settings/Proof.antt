@@ -2,7 +2,7 @@ use borrow.Author.Needs.{needs}
 use mathlib.Core.Path.{sym, _∙_}
 use borrow.Author.Tests.{not-true, not-false}
 use Rattle.listing.proofs.StageCases.{says-mode, says-lead, says-nothing}
-use Rattle.listing.proofs.Tellings.{tells-as, tells-nothing}
+use Rattle.stages.proofs.Tellings.{tells-as, tells-nothing}
 use Rattle.listing.proofs.judge.check_settings.Statement.{statement}
 use Rattle.listing.proofs.judge.check_settings.Tie as tie
 

@@ -1,8 +1,8 @@
 use borrow.Author.Needs.{needs}
 use mathlib.Core.Path.{sym, ap₂, _∙_}
-use Rattle.listing.specs.Stages.{settingsSaid, blockSaid}
+use Rattle.listing.specs.Steps.{settingsSaid, blockSaid}
 use Rattle.listing.proofs.StageCases.{closes-settings, closes-block, closes-stopped}
-use Rattle.listing.proofs.Tellings.{tells-as, tells-nothing}
+use Rattle.stages.proofs.Tellings.{tells-as, tells-nothing}
 use Rattle.listing.proofs.judge.close.Statement.{statement}
 use Rattle.listing.proofs.judge.close.Tie as tie
 

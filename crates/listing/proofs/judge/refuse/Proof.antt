@@ -4,7 +4,7 @@ use lib.ListN.{length}
 use Rattle.lists.specs.Lists.{over}
 use Rattle.refusal.specs.declared.Refusal.{Refusal}
 use Rattle.report.specs.Output.{refusedText}
-use Rattle.listing.proofs.Tellings.{tells-text}
+use Rattle.stages.proofs.Tellings.{tells-text}
 use Rattle.listing.proofs.judge.refuse.Statement.{statement}
 use Rattle.listing.proofs.judge.refuse.Tie as tie
 

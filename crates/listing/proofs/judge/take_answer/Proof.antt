@@ -2,7 +2,7 @@ use borrow.Author.Needs.{needs}
 use mathlib.Core.Path.{sym, _∙_}
 use borrow.Author.Tests.{not-true, not-false}
 use Rattle.listing.proofs.StageCases.{says-on, says-last}
-use Rattle.listing.proofs.Tellings.{tells-as, tells-text}
+use Rattle.stages.proofs.Tellings.{tells-as, tells-text}
 use Rattle.listing.proofs.judge.take_answer.Statement.{statement}
 use Rattle.listing.proofs.judge.take_answer.Tie as tie
 

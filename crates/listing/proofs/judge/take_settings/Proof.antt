@@ -2,7 +2,7 @@ use borrow.Author.Needs.{needs}
 use mathlib.Core.Path.{sym, _∙_}
 use borrow.Author.Tests.{not-true, not-false}
 use Rattle.listing.proofs.StageCases.{says-no-pair, says-pair}
-use Rattle.listing.proofs.Tellings.{tells-as, tells-text}
+use Rattle.stages.proofs.Tellings.{tells-as, tells-text}
 use Rattle.listing.proofs.judge.take_settings.Statement.{statement}
 use Rattle.listing.proofs.judge.take_settings.Tie as tie
 
