@@ -1,4 +1,4 @@
--- What the three calls of a trial answer and leave in their outputs, and that demand 3 holds of it.
+-- What the three calls of a trial answer and leave in their outputs, and that demand 3 holds of it. Names are as in `Demand`.
 use mathlib.Core.Path.{_≡_}
 use mathlib.Core.List.{List}
 use Prim.Native.Nat.{ℕ}
