@@ -8,12 +8,12 @@ use lib.Dec.{lit<}
 use lib.Pow.{pow-add, pow-mono}
 use lib.Ieee.{Float, binary64, ofBits, ofInt, add, sub, mul, div}
 use lib.Ieee.Exact.{HasValue}
-use Rattle.band.specs.Exact.{scaled, whole}
+use Rattle.scaled.specs.Exact.{scaled, whole}
 use Rattle.band.specs.Limits.{fault}
 use Rattle.band.specs.Frequencies.{edge512, spacing512, half512, tone512, bandOf, hertzOf, hertzIn}
 use Rattle.band.specs.declared.Band.{Band}
-use Rattle.band.proofs.Scaling.{scaled-value, cast-exact, sum-exact, difference-exact, product-exact, quotient-exact}
-use Rattle.band.proofs.Rounding.{same-value}
+use Rattle.scaled.proofs.Scaling.{scaled-value, cast-exact, sum-exact, difference-exact, product-exact, quotient-exact}
+use Rattle.scaled.proofs.Rounding.{same-value}
 use Rattle.band.proofs.Settings.{Within, within}
 
 -- the literal 2.0

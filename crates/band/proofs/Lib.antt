@@ -1,6 +1,3 @@
-pub mod OddParts
-pub mod Rounding
-pub mod Scaling
 pub mod Settings
 pub mod Formulas
 pub mod Answers

@@ -1,4 +1,3 @@
-pub mod Exact
 pub mod Limits
 pub mod Frequencies
 pub mod Laws

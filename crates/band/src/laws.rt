@@ -1,13 +1,5 @@
-// The laws of a band, stated in specs/Laws.antt. A function here does nothing: its promise is the law.
-ghost use Rattle.band.specs.Laws.{Exact, Steps, Fractions};
-
-pub fn exact()
-    ensures { λ _. ⌜ Exact ⌝ }
-{}
-
-pub fn steps()
-    ensures { λ _. ⌜ Steps ⌝ }
-{}
+// The law of a band, stated in specs/Laws.antt. The function does nothing: its promise is the law.
+ghost use Rattle.band.specs.Laws.{Fractions};
 
 pub fn fractions()
     ensures { λ _. ⌜ Fractions ⌝ }

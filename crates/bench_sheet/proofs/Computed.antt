@@ -12,7 +12,7 @@ use Rattle.tone_range.specs.Range.{firstBadTone}
 use Rattle.block_encoder.specs.Encoding.{firstBadCode, encodeBlock, sentInto, encodedInto}
 use Rattle.block_decoder.specs.Decoding.{heardSymbol, countOf, countIn, symbolsOf, characterAt, charactersOf, codesOf, firstUnclear, unlessUnclear, padded, decodeBlock}
 use Rattle.demands.specs.Demand.{replacedIn, missingIn}
-use Rattle.band.specs.Exact.{scaled}
+use Rattle.scaled.specs.Exact.{scaled}
 use Rattle.band.specs.Limits.{fault}
 use Rattle.band.specs.Frequencies.{edge512, spacing512, half512, tone512, hertzOf, frequencyOf}
 use Rattle.bench_sheet.specs.Heard.{case-1, evens-to, turned-to, missing-to, all-missing}

@@ -4,7 +4,7 @@ use lib.Count.{ones}
 use Rattle.lists.specs.Lists.{tab, every, over}
 use Rattle.text.specs.Ascii.{ascii}
 use Rattle.text.specs.Decimal.{valueFrom, digits, decimal}
-use Rattle.reader.specs.Input.{onFirst, lines, parts, words, isNumber, isMark, isWord, isReadableFirst, isReadable, valueOf, valuesOf}
+use Rattle.reader_laws.specs.Input.{onFirst, lines, parts, words, isNumber, isMark, isWord, isReadableFirst, isReadable, valueOf, valuesOf}
 use Rattle.lists.specs.Sums.{sum}
 use Rattle.walsh.specs.Words.{minus, corr}
 use Rattle.decision.specs.Decision.{better, best, rival, leadOf, decisionFor, decision}

@@ -11,10 +11,11 @@ use lib.ListN.{length, take, length-take}
 use lib.Seq.{take-all, getD-take}
 use Rattle.lists.specs.Lists.{num, every}
 use Rattle.text.specs.Ascii.{lineFeed}
-use Rattle.reader.specs.Input.{onFirst, lines, words, isWord, isReadableFirst, isReadable, valuesOf}
-use Rattle.reader.specs.Reader.{fresh, lineEnd, readLine}
-use Rattle.reader.proofs.LineReading.{reading}
-use Rattle.reader.proofs.KeptSizes.{read-size, end-size}
+use Rattle.reader_laws.specs.Input.{onFirst, lines, words, isWord, isReadableFirst, isReadable, valuesOf}
+use Rattle.reader.specs.Reader.{fresh, lineEnd}
+use Rattle.reader_laws.specs.Read.{readLine}
+use Rattle.reader_laws.proofs.LineReading.{reading}
+use Rattle.reader_laws.proofs.KeptSizes.{read-size, end-size}
 use Rattle.refusal.specs.Checks.{isMode, isLead}
 use Rattle.refusal.specs.Refused.{refusedAt}
 use Rattle.block_decoder.specs.Decoding.{decodeBlock}

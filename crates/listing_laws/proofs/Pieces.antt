@@ -9,9 +9,10 @@ use lib.ListN.{take}
 use Rattle.lists.specs.Lists.{num}
 use Rattle.text.specs.Ascii.{lineFeed}
 use Rattle.reader.specs.declared.Line.{Line}
-use Rattle.reader.specs.Input.{onFirst, lines}
-use Rattle.reader.specs.Reader.{fresh, isEmpty, isBlank, nextLine, nextTones, lineEnd, endTones, readLine, readTones}
-use Rattle.reader.proofs.LineReading.{next-not-blank}
+use Rattle.reader_laws.specs.Input.{onFirst, lines}
+use Rattle.reader.specs.Reader.{fresh, isEmpty, isBlank, nextLine, nextTones, lineEnd, endTones}
+use Rattle.reader_laws.specs.Read.{readLine, readTones}
+use Rattle.reader_laws.proofs.LineReading.{next-not-blank}
 use Rattle.refusal.specs.Checks.{isMode, isLead}
 use Rattle.block_decoder.specs.Decoding.{decodeBlock}
 use Rattle.stages.specs.declared.Stage.{Stage}

@@ -3,7 +3,7 @@ use mathlib.Core.Bool.{cond, not}
 use mathlib.Core.List.{List, [], _∷_, _++_}
 use Prim.Native.Nat.{ℕ, suc, _+_}
 use Rattle.lists.specs.Lists.{num}
-use Rattle.reader.specs.Input.{lines, isReadableFirst, isReadable, valuesOf}
+use Rattle.reader_laws.specs.Input.{lines, isReadableFirst, isReadable, valuesOf}
 use Rattle.refusal.specs.Checks.{isMode, isLead}
 use Rattle.refusal.specs.Refused.{refusedAt}
 use Rattle.block_decoder.specs.Decoding.{decodeBlock}

@@ -13,7 +13,7 @@ use Rattle.block_decoder.specs.declared.Decoded.the-variants as decoded
 use Rattle.block_decoder.specs.declared.BlockDecoded.{BlockDecoded}
 use Rattle.demands.specs.declared.Trial.{Trial}
 use Rattle.trial.specs.Tried.{trialOf, Tried}
-use Rattle.band.specs.Exact.{scaled}
+use Rattle.scaled.specs.Exact.{scaled}
 use Rattle.band.specs.declared.Tuned.{Tuned}
 use Rattle.band.specs.declared.Tuned.the-variants as tuned
 use Rattle.olivia.specs.declared.Answer.{Answer}

@@ -1,4 +1,1 @@
 pub mod ReaderCases
-pub mod WordReading
-pub mod LineReading
-pub mod KeptSizes

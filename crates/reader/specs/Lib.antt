@@ -1,3 +1,1 @@
-pub mod Input
 pub mod Reader
-pub mod Laws

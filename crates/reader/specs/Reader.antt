@@ -1,6 +1,6 @@
 -- The reader of a line: a state that takes a byte and gives the next state. The tones of the words that ended stand in a lent array.
 use mathlib.Core.Bool.{Bool, false, true, cond, _&&_}
-use mathlib.Core.List.{List, [], _∷_}
+use mathlib.Core.List.{List}
 use Prim.Native.Nat.{ℕ, _+_, _-_, _*_, min}
 use lib.Dec.{leb, eqb}
 use lib.ListN.{set}
@@ -85,13 +85,3 @@ endTones line tones = cond (isBlank line) tones (keptTone line tones)
 -- of a line that ended: every word of it was read
 abbrev pub isRead : Line → Bool
 isRead line = isEmpty (line .word)
-
--- ---- the bytes of a line, one after the other
-
-unfoldable pub readLine : Bool → Line → List ℕ → Line
-readLine marks line [] = line
-readLine marks line (c ∷ cs) = readLine marks (nextLine marks line c) cs
-
-unfoldable pub readTones : Bool → Line → List ℕ → List ℕ → List ℕ
-readTones marks line [] tones = tones
-readTones marks line (c ∷ cs) tones = readTones marks (nextLine marks line c) cs (nextTones line c tones)

@@ -8,8 +8,6 @@ ghost use Rattle.text.specs.Ascii.{hyphen};
 ghost use Rattle.text.specs.Decimal.{isDigit};
 ghost use Rattle.reader.specs.Reader.{numberWith, withDigit, withMark, nextWord, isWhole, isEmpty, toneIn, wordEnd, keptTone, nextLine, nextTones, isBlank, lineEnd, endTones, isRead};
 
-pub mod laws;
-
 // The tones of a line that are kept, one for each count: more than a block has, so that a longer line is seen to be one.
 pub const TONES: usize = 256;
 

@@ -2,7 +2,7 @@ use mathlib.Core.Path.{sym, _∙_, ap}
 use native.Mathlib.Omega.{arith}
 use borrow.Author.Needs.{needs}
 use lib.Ieee.{ofBits, odd}
-use Rattle.band.specs.Exact.{scaled}
+use Rattle.scaled.specs.Exact.{scaled}
 use Rattle.olivia.specs.Told.{hertzTold}
 use Rattle.olivia.proofs.Carried.{frequency-refused-at-0}
 use Rattle.olivia.proofs.olivia_frequency.Statement.{statement}

@@ -9,7 +9,7 @@ use lib.IntN.{ℤ, pos, negsuc}
 use lib.Ieee.{Float, nan, inf, fin, Format, prec, emax, low, up, down, fits}
 use lib.Ieee.Exact.{HasValue}
 use lib.Ieee.Fits.{and-l, up-pos, down-pos}
-use Rattle.band.proofs.Rounding.{cross}
+use Rattle.scaled.proofs.Rounding.{cross}
 
 -- ---- an odd number times a power of two
 

@@ -15,10 +15,10 @@ use lib.Ieee.Back.{round-whole}
 use lib.Ieee.Exact.{HasValue, odd-sign, round-exact}
 use lib.Ieee.Fits.{round-fits, odd-fits}
 use lib.Ieee.Scale.{round-same}
-use Rattle.band.specs.Exact.{scaled, whole}
-use Rattle.band.specs.Laws.{Exact, Steps}
-use Rattle.band.proofs.OddParts.{one-value}
-use Rattle.band.proofs.Rounding.{sum-rounded, difference-rounded, product-rounded, quotient-rounded}
+use Rattle.scaled.specs.Exact.{scaled, whole}
+use Rattle.scaled.specs.Laws.{Exact, Steps}
+use Rattle.scaled.proofs.OddParts.{one-value}
+use Rattle.scaled.proofs.Rounding.{sum-rounded, difference-rounded, product-rounded, quotient-rounded}
 
 -- ---- the format holds k / 2^9: it is k × 2^1065 of the smallest values, of which 2^1074 are 1
 

@@ -11,14 +11,15 @@ use lib.ListN.{length, take, set, length-append, length-set, length-take}
 use lib.Seq.{take-all, take-take, take-append-le, take-set-le, take-suc-set}
 use Rattle.lists.specs.Lists.{every}
 use Rattle.text.specs.Ascii.{space}
 use Rattle.reader.specs.declared.Word.{Word}
 use Rattle.reader.specs.declared.Word.the-variants.{Empty, Unreadable}
 use Rattle.reader.specs.declared.Line.{Line}
-use Rattle.reader.specs.Input.{onFirst, parts, words, isWord, valueOf, valuesOf}
-use Rattle.reader.specs.Reader.{nextWord, isWhole, isEmpty, toneIn, fresh, wordEnd, keptTone, nextLine, nextTones, isBlank, lineEnd, endTones, readLine, readTones}
-use Rattle.reader.specs.Laws.{Reading}
+use Rattle.reader_laws.specs.Input.{onFirst, parts, words, isWord, valueOf, valuesOf}
+use Rattle.reader.specs.Reader.{nextWord, isWhole, isEmpty, toneIn, fresh, wordEnd, keptTone, nextLine, nextTones, isBlank, lineEnd, endTones}
+use Rattle.reader_laws.specs.Read.{readLine, readTones}
+use Rattle.reader_laws.specs.Laws.{Reading}
 use Rattle.reader.proofs.ReaderCases.{whole-ends, other-ends, begun-ends}
-use Rattle.reader.proofs.WordReading.{wordAfter, byte-not-empty, unreadable-stays, whole-is-word, value-of-word}
+use Rattle.reader_laws.proofs.WordReading.{wordAfter, byte-not-empty, unreadable-stays, whole-is-word, value-of-word}
 
 -- ---- the parts of a line
 

@@ -11,10 +11,10 @@ use Rattle.lists.specs.Lists.{every}
 use Rattle.text.specs.Ascii.{hyphen}
 use Rattle.text.specs.Decimal.{isDigit, valueFrom}
 use Rattle.text.proofs.Digits.{digit-range}
 use Rattle.reader.specs.declared.Word.{Word}
 use Rattle.reader.specs.declared.Word.the-variants.{Empty, Number, Missing, Unreadable}
-use Rattle.reader.specs.Input.{isNumber, isMark, isWord, valueOf}
+use Rattle.reader_laws.specs.Input.{isNumber, isMark, isWord, valueOf}
 use Rattle.reader.specs.Reader.{numberWith, withDigit, withMark, nextWord, isWhole, isEmpty, toneIn}
 
 -- a word's state after more bytes, none of them a space
 unfoldable pub wordAfter : Bool → Word → List ℕ → Word

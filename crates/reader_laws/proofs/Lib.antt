@@ -1,0 +1,3 @@
+pub mod WordReading
+pub mod LineReading
+pub mod KeptSizes

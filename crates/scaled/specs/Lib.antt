@@ -1,0 +1,2 @@
+pub mod Exact
+pub mod Laws
