@@ -15,7 +15,7 @@ use Rattle.damage.specs.Damage.{sent, damage}
 use Rattle.decision.specs.Laws.{Chosen}
 use Rattle.damage.specs.Laws.{Moved, Withstands, Damage}
 use Rattle.walsh.proofs.Signed.{abs-signed, signed-sub, signed-twice, sum-signed}
-use Rattle.walsh.proofs.Orthogonal.{orthogonality}
+use Rattle.walsh_laws.proofs.Orthogonal.{orthogonality}
 use Rattle.decision.proofs.Choice.{decision-law}
 
 -- ---- a number y that is at most D away from M

@@ -1,2 +1,3 @@
 pub mod TextEnds
 pub mod TextCases
+pub mod TextAnswers

@@ -7,6 +7,8 @@ ghost use lib.ListN.{length};
 ghost use Rattle.lists.specs.Places.{first};
 ghost use Rattle.delivery.specs.Delivery.{isZero, textEnd, delivery};
 
+pub mod laws;
+
 // The count of codes of a text of at most limit codes, or the refusal.
 pub fn judge(limit: usize, mode: usize, codes: &[u8]) -> Decoded
     ensures { λ r. ⌜ r ≡ delivery limit mode (now (codes .entry)) ⌝ }

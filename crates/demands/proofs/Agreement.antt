@@ -1,4 +1,4 @@
--- Counts of magnitude at most 1: leads are at most 64, and with lead 64 every count agrees with the decided code.
+-- Counts of magnitude at most 1, as tones give them: leads are at most 64, and with lead 64 every count agrees with the decided code.
 use mathlib.Core.Path.{_≡_, refl, sym, _∙_, ap}
 use mathlib.Core.Bool.{Bool, true, false}
 use Prim.Native.Nat.{ℕ, zero, suc, _+_, _<_, _≤_}
@@ -12,10 +12,14 @@ use Rattle.walsh.specs.Words.{minus, signed, corr}
 use Rattle.decision.specs.Decision.{negative, codeOf, decision}
 use Rattle.damage.specs.Damage.{sent}
 use Rattle.walsh.proofs.Signed.{abs-signed, signed-twice}
+use Rattle.walsh.proofs.Sizes.{corr-within}
 use Rattle.decision.proofs.Choice.{decision-law}
+use Rattle.block_decoder.specs.Decoding.{symbolsOf, countIn, characterAt}
+use Rattle.demands.specs.Laws.{Range}
+use Rattle.demands.proofs.Hearings.{count-within}
 
 sum-small : (n : ℕ) (f : ℕ → ℤ) → ((t : ℕ) → natAbs (f t) ≤ 1) → natAbs (sum n f) ≤ n
-sum-small n f h = omega (arith, abs-sum n f, total-within n 1 (λ t. natAbs (f t)) h)
+sum-small n f h = omega (arith, abs-sum n f, total-within n 1 (λ t. natAbs (f t)) (λ t l. h t))
 
 -- ---- a sum of magnitude n of n such numbers
 
@@ -64,8 +68,7 @@ all-agree (suc n) f h e t l =
 
 module _ (h : ℕ → ℤ) (small : (t : ℕ) → natAbs (h t) ≤ 1) where
   corr-small : (c : ℕ) → natAbs (corr h c) ≤ 64
-  unfolding corr
-  corr-small c = sum-small 64 (λ t. signed (minus c t) (h t)) (λ t. omega (arith, abs-signed (minus c t) (h t), small t))
+  corr-small c = corr-within 1 h c (λ t l. small t)
 
   pub lead-high : decision (corr h) .lead ≤ 64
   lead-high =
@@ -95,3 +98,10 @@ module _ (h : ℕ → ℤ) (small : (t : ℕ) → natAbs (h t) ≤ 1) where
             sym (signed-twice (minus w t) (h t))
             ∙ ap (signed (minus w t)) (all-agree 64 (λ t. signed (minus w t) (h t)) (λ k. omega (arith, abs-signed (minus w k) (h k), small k)) whole t l);
       }
+
+pub range : Range
+unfolding characterAt
+range = record {
+  correlations = λ b tones q. corr-small (countIn b (symbolsOf tones) q) (count-within b (symbolsOf tones) q);
+  leads = λ b tones q. lead-high (countIn b (symbolsOf tones) q) (count-within b (symbolsOf tones) q);
+}

@@ -6,9 +6,10 @@ use native.Mathlib.Decide.{ℕ-discrete, decLt}
 use native.Mathlib.Omega.{arith}
 use borrow.Author.Tests.{lt-ltb, le-ltb, ltb-true, ltb-false, le-leb, lt-leb, eqb-false}
 use lib.Dec.{ltb}
-use lib.ListN.{length}
+use lib.ListN.{length, take}
 use lib.Seq.{take-all}
 use Rattle.lists.specs.Lists.{num, over}
+use Rattle.lists.proofs.Fronts.{take-over}
 use Rattle.lists.proofs.Places.{first-ext}
 use Rattle.lists.proofs.Tables.{is-tab}
 use Rattle.refusal.specs.Refused.{unclearAt}
@@ -19,6 +20,7 @@ use Rattle.decision.specs.declared.Character.{Character}
 use Rattle.decision.proofs.Parities.{parity}
 use Rattle.tone_range.specs.Range.{HasTones}
 use Rattle.block_decoder.specs.Decoding.{symbolsOf, countIn, characterAt, charactersOf, codesOf, leadIn, firstUnclear, unlessUnclear, padded, decodeBlock, decodedInto}
+use Rattle.block_decoder.specs.declared.Decoded.{Decoded}
 use Rattle.block_decoder.specs.declared.Decoded.the-variants.{Text, Refused}
 use Rattle.block_decoder.specs.declared.BlockDecoded.{BlockDecoded}
 use Rattle.block_decoder.proofs.Characters.{characters-length, character-at, same-lead, codes-are, codes-length}
@@ -38,7 +40,7 @@ module _ (b m : ℕ) (tones codes : List ℕ) (s : IsSet b m) (w : HasTones (2 ^
   count : length characters ≡ b
   count = characters-length b tones
 
-  lead-decided : (q : ℕ) → q < b → leadIn (decodeBlock b m tones (length codes) .characters) q ≡ leadIn characters q
+  pub lead-decided : (q : ℕ) → q < b → leadIn (decodeBlock b m tones (length codes) .characters) q ≡ leadIn characters q
   lead-decided q l = ap (λ (d : BlockDecoded). leadIn (d .characters) q) whole ∙ same-lead b tones q l
 
   pub refuses : firstUnclear m characters < b → RefusesAsUnclear b m (decodeBlock b m tones (length codes)) codes (decodedInto b m tones codes)
@@ -83,12 +85,20 @@ module _ (b m : ℕ) (tones codes : List ℕ) (s : IsSet b m) (w : HasTones (2 ^
       by q l g (yes k) = refuses k
       by q l g (no n) = absurd (omega (arith, lead-decided q l, clear-lead m characters (omega (arith, count)) q (omega (arith, count))))
 
+-- the codes that an accepted block writes
+pub written-text : (b m : ℕ) (tones codes : List ℕ) → decodeBlock b m tones (length codes) .answer ≡ Text b
+    → take b (decodedInto b m tones codes) ≡ codesOf (charactersOf b tones)
+written-text b m tones codes answer =
+    ap (take b) (codes-written b m tones codes answer)
+    ∙ ap (λ (x : List ℕ). take b (over x codes)) (take-all b (codesOf (charactersOf b tones)) (omega (arith, codes-length b tones)))
+    ∙ take-over (codesOf (charactersOf b tones)) codes b (codes-length b tones)
+
 pub clear : Clear
 clear = record { precisely = precisely }
 
 -- ---- odd leads
 
-lead-even : (b : ℕ) (tones : List ℕ) (q : ℕ) → characterAt b tones q .lead % 2 ≡ 0
+pub lead-even : (b : ℕ) (tones : List ℕ) (q : ℕ) → characterAt b tones q .lead % 2 ≡ 0
 unfolding characterAt
 lead-even b tones q =
     omega (arith, eqb-false (decision (corr (countIn b (symbolsOf tones) q)) .lead % 2) 1 (parity .leads (countIn b (symbolsOf tones) q)))
@@ -101,7 +111,7 @@ module _ (k : ℕ) where
       by (yes l) = lt-ltb n (2 * k - 1) (omega arith) ∙ sym (lt-ltb n (2 * k) l)
       by (no g) = le-ltb n (2 * k - 1) (omega arith) ∙ sym (le-ltb n (2 * k) (omega arith))
 
-  odd-limit : isLead (2 * k - 1) ≡ isLead (2 * k)
+  pub odd-limit : isLead (2 * k - 1) ≡ isLead (2 * k)
   odd-limit = by (ℕ-discrete k 0) (decLt k 33)
     where
       by : Dec (k ≡ 0) → Dec (k < 33) → isLead (2 * k - 1) ≡ isLead (2 * k)
@@ -109,20 +119,22 @@ module _ (k : ℕ) where
       by (no g) (yes l) = rw (le-leb 1 (2 * k - 1) (omega arith), le-leb (2 * k - 1) 64 (omega arith), le-leb 1 (2 * k) (omega arith), le-leb (2 * k) 64 (omega arith))
       by (no g) (no l) = rw (le-leb 1 (2 * k - 1) (omega arith), lt-leb (2 * k - 1) 64 (omega arith), le-leb 1 (2 * k) (omega arith), lt-leb (2 * k) 64 (omega arith))
 
-  module _ (b : ℕ) (tones : List ℕ) where
-    odd-unclear : firstUnclear (2 * k - 1) (charactersOf b tones) ≡ firstUnclear (2 * k) (charactersOf b tones)
+  module _ (characters : List Character) (even : (i : ℕ) → i < length characters → leadIn characters i % 2 ≡ 0) where
+    odd-unclear : firstUnclear (2 * k - 1) characters ≡ firstUnclear (2 * k) characters
     unfolding firstUnclear
-    odd-unclear =
-        rw (characters-length b tones)
-        (first-ext _ _ b (λ q l. odd-test (leadIn (charactersOf b tones) q) (ap (λ (c : Character). c .lead % 2) (character-at b tones q l) ∙ lead-even b tones q)))
+    odd-unclear = first-ext _ _ (length characters) (λ i l. odd-test (leadIn characters i) (even i l))
 
-    odd-answer : unlessUnclear (2 * k - 1) (charactersOf b tones) (Text b) ≡ unlessUnclear (2 * k) (charactersOf b tones) (Text b)
+    pub odd-answer : (clear : Decoded) → unlessUnclear (2 * k - 1) characters clear ≡ unlessUnclear (2 * k) characters clear
     unfolding unlessUnclear
-    odd-answer = rw odd-unclear
+    odd-answer clear = rw odd-unclear
 
-    odd-as-even : (room : ℕ) → decodeBlock b (2 * k - 1) tones room ≡ decodeBlock b (2 * k) tones room
-    unfolding decodeBlock
-    odd-as-even room = rw (odd-limit, odd-answer)
+  odd-as-even : (b : ℕ) (tones : List ℕ) (room : ℕ) → decodeBlock b (2 * k - 1) tones room ≡ decodeBlock b (2 * k) tones room
+  unfolding decodeBlock
+  odd-as-even b tones room =
+      rw (odd-limit, odd-answer (charactersOf b tones) (λ q l. even q (omega (arith, characters-length b tones))) (Text b))
+    where
+      even : (q : ℕ) → q < b → leadIn (charactersOf b tones) q % 2 ≡ 0
+      even q l = ap (λ (c : Character). c .lead % 2) (character-at b tones q l) ∙ lead-even b tones q
 
 pub odd-leads : OddLeads
 odd-leads = record { even = λ b k. odd-as-even k b }

@@ -9,11 +9,9 @@ use native.Mathlib.Omega.{arith}
 use borrow.Author.Tests.{lt-ltb, le-ltb, eqb-false}
 use lib.Dec.{eqb}
 use lib.IntN.{pos}
-use lib.ListN.{length, take}
+use lib.ListN.{length}
 use lib.Pow.{pow-mono}
-use lib.Seq.{take-all}
 use Rattle.lists.specs.Lists.{num, over}
-use Rattle.lists.proofs.Fronts.{take-over}
 use Rattle.lists.proofs.Tables.{tab-at, is-tab}
 use Rattle.refusal.specs.Checks.{isMode}
 use Rattle.refusal.proofs.Limits.{mode-range}
@@ -30,15 +28,16 @@ use Rattle.tone_range.specs.Range.{HasTones}
 use Rattle.tone_range.proofs.Ranges.{in-range-tones}
 use Rattle.block_encoder.specs.Encoding.{IsText}
 use Rattle.block_encoder.proofs.EncodeCases.{tones-written}
-use Rattle.block_decoder.specs.Decoding.{heardSymbol, symbolsOf, countOf, countIn, characterAt, charactersOf, codesOf, leadIn, decodeBlock, decodedInto}
+use Rattle.block_decoder.specs.Decoding.{heardSymbol, symbolsOf, countOf, countIn, characterAt, charactersOf, codesOf, leadIn, decodeBlock}
 use Rattle.block_decoder.specs.declared.Decoded.the-variants.{Text}
 use Rattle.block_decoder.specs.declared.BlockDecoded.{BlockDecoded}
 use Rattle.block_decoder.proofs.Characters.{character-padded, codes-are, codes-length}
-use Rattle.block_decoder.proofs.DecodeCases.{Accepted, accepted, judges, codes-written}
-use Rattle.demands.specs.Laws.{CleanBack, Clean}
+use Rattle.block_decoder.proofs.DecodeCases.{Accepted, accepted, judges}
+use Rattle.demands.specs.Laws.{AreClean, CleanBack, Clean}
 use Rattle.demands.proofs.Hearings.{wordOf, signOf, sent-code, count-missing, count-present, count-within, heard-missing, heard-present, symbol-heard}
 use Rattle.demands.proofs.Agreement.{CleanCounts, clean-counts}
-use Rattle.demands.proofs.Demands.{sends}
+use Rattle.demands.proofs.Answers.{written-text}
+use Rattle.demands.proofs.Sent.{sends}
 
 -- ---- a code from its word and sign
 
@@ -125,7 +124,7 @@ module _ (b : ℕ) (tones : List ℕ) (low : 1 ≤ b) (high : b ≤ 8) (w : HasT
   clean-tones = is-tab (toneAt b (decidedText b tones)) 0 64 tones (w .count) tone-clean
 
 module _ (b m : ℕ) (tones codes sent : List ℕ) (answer : decodeBlock b m tones (length codes) .answer ≡ Text b)
-    (leads : (q : ℕ) → q < b → leadIn (decodeBlock b m tones (length codes) .characters) q ≡ 64) (room : 64 ≤ length sent)
+    (clean : AreClean b (decodeBlock b m tones (length codes) .characters)) (room : 64 ≤ length sent)
     (a : Accepted b m tones (length codes) b) where
   mode : isMode b ≡ true
   mode = a .passed .mode
@@ -137,27 +136,21 @@ module _ (b m : ℕ) (tones codes sent : List ℕ) (answer : decodeBlock b m ton
   decided-leads q h =
       ap (λ (c : Character). c .lead) (sym (character-padded b tones q h))
       ∙ ap (λ (d : BlockDecoded). leadIn (d .characters) q) (sym (judges b m tones (length codes) (a .passed) (a .in-range)))
-      ∙ leads q h
-
-  written-text : take b (decodedInto b m tones codes) ≡ decidedText b tones
-  written-text =
-      ap (take b) (codes-written b m tones codes answer)
-      ∙ ap (λ (x : List ℕ). take b (over x codes)) (take-all b (decidedText b tones) (omega (arith, codes-length b tones)))
-      ∙ take-over (decidedText b tones) codes b (codes-length b tones)
+      ∙ clean .leads q h
 
   clean-back : CleanBack b m tones codes sent
   clean-back =
       let range = mode-range b mode in
       let accepts = sends b (decidedText b tones) sent mode (clean-text b tones (range .0) (range .1) in-range decided-leads) room in
       record {
-        answer = rw written-text accepts;
+        answer = rw (written-text b m tones codes answer) accepts;
         written =
-            rw written-text
+            rw (written-text b m tones codes answer)
             (tones-written b (decidedText b tones) sent accepts
             ∙ ap (λ (x : List ℕ). over x sent) (sym (clean-tones b tones (range .0) (range .1) in-range decided-leads)));
       }
 
 pub clean : Clean
 clean = record {
-  back = λ b m tones codes sent answer leads room. clean-back b m tones codes sent answer leads room (accepted b m tones (length codes) b answer);
+  back = λ b m tones codes sent answer clean room. clean-back b m tones codes sent answer clean room (accepted b m tones (length codes) b answer);
 }

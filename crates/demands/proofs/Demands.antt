@@ -22,10 +22,8 @@ use Rattle.damage.proofs.Drift.{damage-law}
 use Rattle.chain.specs.Chain.{tonesOf}
 use Rattle.chain.proofs.Tones.{tones-length, tone-sent, tone-below}
 use Rattle.tone_range.specs.Range.{HasTones}
-use Rattle.block_encoder.specs.Encoding.{IsText, encodeBlock}
-use Rattle.block_encoder.specs.declared.Encoded.the-variants.{Tones}
-use Rattle.block_encoder.proofs.Ranges.{text-in-range}
-use Rattle.block_encoder.proofs.EncodeCases.{encodes, tones-written}
+use Rattle.block_encoder.specs.Encoding.{IsText}
+use Rattle.block_encoder.proofs.EncodeCases.{tones-written}
 use Rattle.block_decoder.specs.Decoding.{symbolsOf, countIn, characterAt, charactersOf, none, leadIn, firstUnclear, padded, decodeBlock, decodedInto}
 use Rattle.block_decoder.specs.declared.BlockDecoded.{BlockDecoded}
 use Rattle.block_decoder.proofs.Characters.{characters-length, character-at}
@@ -35,6 +33,7 @@ use Rattle.demands.specs.Demand.{flag, isMissing, isReplaced, missingIn,
 use Rattle.demands.specs.Laws.{RoundTrip}
 use Rattle.demands.proofs.Agreement.{lead-high}
 use Rattle.demands.proofs.Hearings.{wordOf, signOf, word-below, code-of-word, tone-present, count-within, block-damage}
+use Rattle.demands.proofs.Sent.{sends, air-sent}
 use Rattle.demands.proofs.Answers.{refuses, gives}
 
 -- ---- one character of a damaged block
@@ -132,9 +131,6 @@ sent-text b m text codes s is-text h =
     same-text b m text (tonesOf b text) codes s is-text (sent-tones b text) h
     (omega (arith, none-missing b text (mode-range b (s .mode) .1), none-replaced (tonesOf b text), lead-range m (s .lead) .1))
 
-pub sends : (b : ℕ) (text tones : List ℕ) → isMode b ≡ true → IsText b text → 64 ≤ length tones → encodeBlock b text (length tones) ≡ Tones 64
-sends b text tones mode is-text h = encodes b text (length tones) mode (is-text .count) h (text-in-range b text is-text)
-
 pub demand3 : Demand3
 demand3 = record {
   met = λ b m text heard tones one two c.
@@ -162,8 +158,15 @@ sent-character b text q mode is-text hq =
 pub round-trip : RoundTrip
 unfolding charactersOf
 round-trip = record {
-  back = sent-text;
-  characters = λ b m text room s is-text h.
-      ap (λ (d : BlockDecoded). d .characters) (decided b m (tonesOf b text) room s (sent-tones b text) h)
-      ∙ ap padded (tab-ext none (characterAt b (tonesOf b text)) (λ q. record { code = num text q; lead = 64 }) b (λ q l. sent-character b text q (s .mode) is-text l));
+  back = λ b m text tones out s is-text room-sent room-heard.
+      let sent = sends b text tones (s .mode) is-text room-sent in
+      let on-air = air-sent b text tones sent in
+      record {
+        sent = sent;
+        given = rw on-air (sent-text b m text out s is-text room-heard);
+        characters =
+            rw on-air
+            (ap (λ (d : BlockDecoded). d .characters) (decided b m (tonesOf b text) (length out) s (sent-tones b text) room-heard)
+            ∙ ap padded (tab-ext none (characterAt b (tonesOf b text)) (λ q. record { code = num text q; lead = 64 }) b (λ q l. sent-character b text q (s .mode) is-text l)));
+      };
 }

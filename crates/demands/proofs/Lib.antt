@@ -1,5 +1,6 @@
 pub mod Hearings
 pub mod Agreement
 pub mod Answers
+pub mod Sent
 pub mod Demands
 pub mod CleanTones

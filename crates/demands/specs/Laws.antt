@@ -1,24 +1,56 @@
 -- The laws of a block. Each is the promise of the function of the same name in src/laws.rt.
 use mathlib.Core.Path.{_≡_}
+use mathlib.Core.Logic.{_≢_}
 use mathlib.Core.List.{List}
 use Prim.Native.Nat.{ℕ, _-_, _*_, _<_, _≤_, _^_}
+use lib.IntN.{natAbs}
 use lib.ListN.{length, take}
 use Rattle.lists.specs.Lists.{tab, num, over}
 use Rattle.refusal.specs.Checks.{IsSet}
-use Rattle.chain.specs.Chain.{tonesOf}
+use Rattle.walsh.specs.Words.{corr}
+use Rattle.decision.specs.declared.Character.{Character}
+use Rattle.chain.specs.Chain.{missingMark}
 use Rattle.tone_range.specs.Range.{HasTones}
-use Rattle.block_encoder.specs.Encoding.{IsText, encodeBlock, encodedInto}
+use Rattle.block_encoder.specs.Encoding.{IsText, encodeBlock, encodedInto, onAir}
 use Rattle.block_encoder.specs.declared.Encoded.the-variants.{Tones}
-use Rattle.block_decoder.specs.Decoding.{leadIn, padded, decodeBlock, decodedInto}
+use Rattle.block_decoder.specs.Decoding.{symbolsOf, countIn, characterAt, leadIn, padded, decodeBlock, decodedInto}
 use Rattle.block_decoder.specs.declared.Decoded.the-variants.{Text}
 use Rattle.demands.specs.Demand.{Gives, RefusesAsUnclear}
 
--- A text encoded and decoded comes back, with every lead 64.
+-- ---- what is sent
+
+-- what goes on the air for a text, by way of an output
+unfoldable pub air : ℕ → List ℕ → List ℕ → List ℕ
+air b text tones = onAir (encodeBlock b text (length tones)) (encodedInto b text tones)
+
+-- tones of the mode, and no missing mark among them
+pub record AreSent (b : ℕ) (tones : List ℕ) : Type 0 where
+  pub below : (t : ℕ) → t < length tones → num tones t < 2 ^ b
+  pub no-mark : (t : ℕ) → t < length tones → num tones t ≢ missingMark
+
+-- No mark is sent, whatever is handed to the encoder.
+pub record NoMark : Type 0 where
+  pub sent : (b : ℕ) (text tones : List ℕ) → AreSent b (air b text tones)
+
+-- A text encoded and decoded, into outputs long enough and at any m, comes back with every lead 64.
+pub record ComesBack (b m : ℕ) (text tones out : List ℕ) : Type 0 where
+  pub sent : encodeBlock b text (length tones) ≡ Tones 64
+  pub given : Gives b text (decodeBlock b m (air b text tones) (length out)) out (decodedInto b m (air b text tones) out)
+  pub characters : decodeBlock b m (air b text tones) (length out) .characters ≡ padded (tab (λ q. record { code = num text q; lead = 64 }) b)
+
 pub record RoundTrip : Type 0 where
-  pub back : (b m : ℕ) (text out : List ℕ) → IsSet b m → IsText b text → b ≤ length out
-      → Gives b text (decodeBlock b m (tonesOf b text) (length out)) out (decodedInto b m (tonesOf b text) out)
-  pub characters : (b m : ℕ) (text : List ℕ) (room : ℕ) → IsSet b m → IsText b text → b ≤ room
-      → decodeBlock b m (tonesOf b text) room .characters ≡ padded (tab (λ q. record { code = num text q; lead = 64 }) b)
+  pub back : (b m : ℕ) (text tones out : List ℕ) → IsSet b m → IsText b text → 64 ≤ length tones → b ≤ length out → ComesBack b m text tones out
+
+-- ---- what is heard
+
+-- Correlations of the characters in any tones are from -64 to 64, and leads at most 64.
+pub record Range : Type 0 where
+  pub correlations : (b : ℕ) (tones : List ℕ) (q c : ℕ) → natAbs (corr (countIn b (symbolsOf tones) q) c) ≤ 64
+  pub leads : (b : ℕ) (tones : List ℕ) (q : ℕ) → characterAt b tones q .lead ≤ 64
+
+-- clean: the lead of every character is 64, here of the first n
+pub record AreClean (n : ℕ) (characters : List Character) : Type 0 where
+  pub leads : (i : ℕ) → i < n → leadIn characters i ≡ 64
 
 -- Accepted clean tones encode back to themselves.
 pub record CleanBack (b m : ℕ) (tones codes sent : List ℕ) : Type 0 where
@@ -28,7 +60,7 @@ pub record CleanBack (b m : ℕ) (tones codes sent : List ℕ) : Type 0 where
 pub record Clean : Type 0 where
   pub back : (b m : ℕ) (tones codes sent : List ℕ)
       → decodeBlock b m tones (length codes) .answer ≡ Text b
-      → ((q : ℕ) → q < b → leadIn (decodeBlock b m tones (length codes) .characters) q ≡ 64)
+      → AreClean b (decodeBlock b m tones (length codes) .characters)
       → 64 ≤ length sent
       → CleanBack b m tones codes sent
 

@@ -59,10 +59,10 @@ total-ext (suc n) f g h = omega (arith, total-ext n f g (λ t l. h t (omega arit
 
 -- ---- totals
 
-pub total-within : (n b : ℕ) (f : ℕ → ℕ) → ((t : ℕ) → f t ≤ b) → total n f ≤ n * b
+pub total-within : (n b : ℕ) (f : ℕ → ℕ) → ((t : ℕ) → t < n → f t ≤ b) → total n f ≤ n * b
 unfolding total
 total-within zero b f h = omega arith
-total-within (suc n) b f h = omega (arith, total-within n b f h, h n, suc-mul n b)
+total-within (suc n) b f h = omega (arith, total-within n b f (λ t l. h t (omega arith)), h n (omega arith), suc-mul n b)
 
 pub total-zero : (n : ℕ) (f : ℕ → ℕ) → ((t : ℕ) → t < n → f t ≡ 0) → total n f ≡ 0
 unfolding total

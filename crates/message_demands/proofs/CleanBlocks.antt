@@ -1,7 +1,8 @@
 -- Accepted clean tones of a message encode back to themselves.
-use mathlib.Core.Path.{_≡_, sym, _∙_, ap}
+use mathlib.Core.Path.{_≡_, refl, sym, _∙_, ap}
 use mathlib.Core.List.{List}
-use Prim.Native.Nat.{ℕ, _+_, _*_, _/_, _<_, _≤_, _^_}
+use mathlib.Core.Logic.{_≢_}
+use Prim.Native.Nat.{ℕ, zero, suc, _+_, _*_, _/_, _<_, _≤_, _^_}
 use native.Mathlib.Decide.{decLt}
 use native.Mathlib.Omega.{arith}
 use lib.ListN.{length, take, List·getD-eq-default}
@@ -15,12 +16,14 @@ use Rattle.decision.specs.declared.Character.{Character}
 use Rattle.chain.specs.Chain.{tonesOf}
 use Rattle.tone_range.specs.Range.{HasTones}
 use Rattle.block_encoder.specs.declared.Encoded.the-variants.{Tones}
-use Rattle.block_decoder.specs.Decoding.{leadIn, characterAt, codesOf}
+use Rattle.block_decoder.specs.Decoding.{characterAt, codesOf}
 use Rattle.block_decoder.specs.declared.Decoded.the-variants.{Text}
 use Rattle.block_decoder.proofs.Characters.{character-at, codes-length}
+use Rattle.demands.specs.Laws.{AreClean}
 use Rattle.demands.proofs.CleanTones.{decidedText, clean-text, clean-tones}
 use Rattle.delivery.specs.Delivery.{delivery}
-use Rattle.delivery.proofs.TextEnds.{end-within}
+use Rattle.delivery.proofs.TextEnds.{end-within, end-is}
+use Rattle.delivery.proofs.TextAnswers.{no-zero-before}
 use Rattle.delivery.proofs.TextCases.{Delivered, text-delivered}
 use Rattle.message_encoder.specs.Blocks.{blockCount, blockAt}
 use Rattle.message_encoder.specs.Encoding.{blockCodes, sentTones, encodeMessage}
@@ -32,7 +35,6 @@ use Rattle.message_decoder.proofs.DecodeCases.{Heard, heard, text-written}
 use Rattle.message_decoder.proofs.ToneRanges.{block-has-tones}
 use Rattle.message_decoder.proofs.HeardBlocks.{heard-count, heard-at, heard-codes}
 use Rattle.message_demands.specs.Laws.{IsMessage, textHeard, CleanBack, Clean}
-use Rattle.message_demands.proofs.Fillings.{filling-zero, no-zero-before}
 use Rattle.message_demands.proofs.SentMessages.{sendable}
 
 -- the codes decided in block k
@@ -66,10 +68,14 @@ module _ (b : ℕ) (tones : List ℕ) (n : ℕ) (low : 1 ≤ b) (high : b ≤ 8)
       ∙ sym (clean-tones b (blockAt tones k) low high (in-range k l) (λ q. clean k q l)))
       ∙ joined-whole tones n whole
 
+above-zero : (n : ℕ) → n ≢ 0 → 1 ≤ n
+above-zero zero h = absurd (h refl)
+above-zero (suc n) h = omega arith
+
 -- ---- the tones accepted
 
 module _ (limit b m n : ℕ) (tones out : List ℕ) (answer : decodeMessage limit b m tones (length out) ≡ Text n)
-    (leads : (i : ℕ) → i < length (messageCharacters b tones) → leadIn (messageCharacters b tones) i ≡ 64) where
+    (clean : AreClean (length (messageCharacters b tones)) (messageCharacters b tones)) where
   abbrev count : ℕ
   count = length tones / 64
 
@@ -99,7 +105,7 @@ module _ (limit b m n : ℕ) (tones out : List ℕ) (answer : decodeMessage limi
   unfolding messageCharacters
   lead-at k q l g =
       ap (λ (c : Character). c .lead) (sym (heard-at b tones count k q l g ∙ character-at b (blockAt tones k) q g))
-      ∙ leads (k * b + q) (omega (arith, heard-count b tones count, place-room k count b l))
+      ∙ clean .leads (k * b + q) (omega (arith, heard-count b tones count, place-room k count b l))
 
   codes-are : codesOf (messageCharacters b tones) ≡ codes
   unfolding messageCharacters
@@ -127,14 +133,14 @@ module _ (limit b m n : ℕ) (tones out : List ℕ) (answer : decodeMessage limi
       by (yes g) = getD-take n codes i 0 g
       by (no g) =
           List·getD-eq-default text 0 {n = i} (omega (arith, text-length))
-          ∙ sym (filling-zero codes i (omega (arith, text-found .end)) (omega (arith, size)))
+          ∙ sym (end-is codes .zeros i (omega (arith, text-found .end)) (omega (arith, size)))
 
   message : IsMessage limit text
   message =
       let same : length text ≡ n = text-length in
       record {
         count = omega (arith, text-found .fits);
-        low = λ i l. omega (arith, text-code i (omega (arith, ends)), no-zero-before codes n (text-found .no-zero) i (omega arith));
+        low = λ i l. omega (arith, text-code i (omega (arith, ends)), above-zero (num codes i) (no-zero-before codes n (text-found .no-zero) i (omega arith)));
         high = λ i l. omega (arith, text-code i (omega (arith, ends)), code-small b tones count low high in-range lead-at i (omega (arith, ends)));
       }
 
@@ -161,5 +167,5 @@ module _ (limit b m n : ℕ) (tones out : List ℕ) (answer : decodeMessage limi
 
 pub clean : Clean
 clean = record {
-  back = λ limit b m n tones out sent answer leads room. clean-back limit b m n tones out answer leads sent room;
+  back = λ limit b m n tones out sent answer clean room. clean-back limit b m n tones out answer clean sent room;
 }

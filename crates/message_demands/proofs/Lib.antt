@@ -1,4 +1,4 @@
 pub mod SentMessages
-pub mod Fillings
 pub mod RoundTrips
 pub mod CleanBlocks
+pub mod HeardMessages

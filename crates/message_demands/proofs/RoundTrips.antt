@@ -1,7 +1,8 @@
 -- A text encoded and decoded comes back.
-use mathlib.Core.Path.{_≡_, sym, _∙_, ap}
+use mathlib.Core.Path.{_≡_, refl, sym, _∙_, ap}
 use mathlib.Core.List.{List, [], append-nil}
-use Prim.Native.Nat.{ℕ, _+_, _*_, _/_, _%_, _<_, _≤_}
+use mathlib.Core.Logic.{_⊎_, inl, inr, _≢_}
+use Prim.Native.Nat.{ℕ, zero, suc, _+_, _-_, _*_, _/_, _%_, _<_, _≤_}
 use native.Mathlib.Omega.{arith}
 use borrow.Author.Tests.{eq-eqb, le-leb}
 use lib.ListN.{length, take, List·getD-eq-default}
@@ -19,7 +20,7 @@ use Rattle.block_decoder.specs.declared.Decoded.the-variants.{Text}
 use Rattle.block_decoder.proofs.Clarity.{all-clear, clear-told}
 use Rattle.demands.proofs.Demands.{sent-character}
 use Rattle.delivery.specs.Delivery.{delivery}
-use Rattle.delivery.proofs.TextCases.{delivers}
+use Rattle.delivery.proofs.TextAnswers.{answers}
 use Rattle.message_encoder.specs.Blocks.{blockCount, blockAt}
 use Rattle.message_encoder.specs.Encoding.{blockCodes, sentTones, encodeMessage, messageEncodedInto}
 use Rattle.message_encoder.proofs.Counts.{count-covers, count-tight, count-mono}
@@ -28,7 +29,6 @@ use Rattle.message_encoder.proofs.SentBlocks.{sent-count, block-text, block-cod
 use Rattle.message_decoder.specs.Decoding.{heardCharacters, messageCharacters, decodeMessage}
 use Rattle.message_decoder.proofs.DecodeCases.{Hearable, judges, text-written}
 use Rattle.message_demands.specs.Laws.{IsMessage, messageAir, ComesBack, RoundTrip}
-use Rattle.message_demands.proofs.Fillings.{no-zero, end-found}
 use Rattle.message_demands.proofs.SentMessages.{sent-block, sent-in-range, sendable}
 
 -- the decision on character i of a text heard as sent
@@ -59,14 +59,17 @@ module _ (limit b m : ℕ) (text : List ℕ) (s : IsSet b m) (message : IsMessag
       let same : (i : ℕ) → i < count * b → num codes i ≡ num text i = λ i l. tab-at (num text) 0 (count * b) i l in
       let covers : length text ≤ count * b = count-covers b (length text) low in
       let size : length codes ≡ count * b = tab-length (num text) (count * b) in
-      let above : (i : ℕ) → i < length text → 1 ≤ num codes i = λ i l. omega (arith, same i (omega arith), message .low i l) in
-      delivers limit b codes (length text)
+      let above : (i : ℕ) → i < length text → num codes i ≢ 0 = λ i l e. omega (arith, same i (omega arith), message .low i l) in
+      answers .delivers limit b codes (length text)
       (record {
-        end = end-found codes (length text) above (omega arith) (λ j g l. same j (omega arith) ∙ List·getD-eq-default text 0 g);
-        no-zero = no-zero codes (length text) above;
-        filling = omega (arith, count-tight b (length text) low);
-        fits = message .count;
+        last = ending (length text) (λ l. above (length text - 1) (omega arith));
+        zeros = λ j g l. same j (omega arith) ∙ List·getD-eq-default text 0 g;
       })
+      .text above (omega (arith, count-tight b (length text) low)) (message .count)
+    where
+      ending : {P : Type 0} (n : ℕ) → (1 ≤ n → P) → (n ≡ 0) ⊎ P
+      ending zero f = inl refl
+      ending (suc n) f = inr (f (omega arith))
 
   heard-sent : unlessUnclear m (tab (heardAs text) (count * b)) (delivery limit b (codesOf (tab (heardAs text) (count * b)))) ≡ Text (length text)
   heard-sent =

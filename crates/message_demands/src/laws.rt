@@ -1,8 +1,12 @@
 // The laws of a message, stated in specs/Laws.antt. A function here does nothing: its promise is the law.
-ghost use Rattle.message_demands.specs.Laws.{BlockTones, RoundTrip, Clean};
+ghost use Rattle.message_demands.specs.Laws.{BlockTones, NoMark, RoundTrip, Clean, BlocksHeard, Clear, OddLeads};
 
 pub fn block_tones()
     ensures { λ _. ⌜ BlockTones ⌝ }
+{}
+
+pub fn no_mark()
+    ensures { λ _. ⌜ NoMark ⌝ }
 {}
 
 pub fn round_trip()
@@ -11,4 +15,16 @@ pub fn round_trip()
 
 pub fn clean()
     ensures { λ _. ⌜ Clean ⌝ }
+{}
+
+pub fn blocks_heard()
+    ensures { λ _. ⌜ BlocksHeard ⌝ }
+{}
+
+pub fn clear()
+    ensures { λ _. ⌜ Clear ⌝ }
+{}
+
+pub fn odd_leads()
+    ensures { λ _. ⌜ OddLeads ⌝ }
 {}

@@ -1,5 +1,4 @@
 -- What C is told of each answer (include/olivia.h).
-use mathlib.Core.Path.{_≡_}
 use mathlib.Core.List.{List}
 use Prim.Native.Nat.{ℕ, min}
 use Rattle.lists.specs.Lists.{tab}
@@ -12,7 +11,6 @@ use Rattle.block_decoder.specs.declared.Decoded.{Decoded}
 use Rattle.block_decoder.specs.declared.Decoded.the-variants as decoded
 use Rattle.block_decoder.specs.declared.BlockDecoded.{BlockDecoded}
 use Rattle.demands.specs.declared.Trial.{Trial}
-use Rattle.trial.specs.Tried.{trialOf, Tried}
 use Rattle.scaled.specs.Exact.{scaled}
 use Rattle.band.specs.declared.Tuned.{Tuned}
 use Rattle.band.specs.declared.Tuned.the-variants as tuned
@@ -60,8 +58,3 @@ trialTold t = record {
   replaced = capped (t .replaced);
   missing = capped (t .missing);
 }
-
--- the promise of a trial: C is told the answers, and of these and of the outputs demand 3 holds
-pub record TriedForC (b m : ℕ) (text heard : List ℕ) (r : TrialAnswers) (tones tones′ one one′ two two′ : List ℕ) : Type 0 where
-  pub answers : r ≡ trialTold (trialOf b m text heard tones one two)
-  pub tried : Tried b m text heard (trialOf b m text heard tones one two) tones tones′ one one′ two two′

@@ -11,7 +11,8 @@ ghost use Rattle.message_encoder.specs.Blocks.{longest};
 ghost use Rattle.message_encoder.specs.Encoding.{encodeMessage, messageEncodedInto};
 ghost use Rattle.message_decoder.specs.Decoding.{decodeMessage, messageDecodedInto};
 ghost use Rattle.band.specs.Frequencies.{frequencyOf};
-ghost use Rattle.olivia.specs.Told.{acceptedTold, refusalTold, encodedTold, decodedTold, leadsOf, blockTold, hertzTold, capped, TriedForC};
+ghost use Rattle.olivia.specs.Told.{acceptedTold, refusalTold, encodedTold, decodedTold, leadsOf, blockTold, hertzTold, capped};
+ghost use Rattle.olivia.specs.Tried.{TriedForC};
 ghost use Rattle.olivia.specs.Internal.{carriedBy, heardCarries};
 
 // number 0: accepted, and count is the tones or codes written. Else the refusal, and count is 0.

@@ -26,7 +26,7 @@ module _ (limit : ℕ) (tones : List ℕ) where
 
 -- ---- 64 tones of a mode
 
-good-tone : (limit n : ℕ) → (n < limit) ⊎ (n ≡ missingMark) → leb limit n && not (eqb n missingMark) ≡ false
+pub good-tone : (limit n : ℕ) → (n < limit) ⊎ (n ≡ missingMark) → leb limit n && not (eqb n missingMark) ≡ false
 good-tone limit n (inl l) = rw (lt-leb limit n l)
 good-tone limit n (inr e) = rw (eq-eqb n missingMark e) (and-false-right (leb limit n))
   where

@@ -6,7 +6,7 @@ use Prim.Native.Nat.{ℕ, _≤_, zero-le}
 use native.Mathlib.Omega.{arith}
 use lib.Dec.{ltb, eqb}
 use lib.ListN.{length, take}
-use Rattle.lists.proofs.Fronts.{over-fits, take-over}
+use Rattle.lists.proofs.Fronts.{over-fits}
 use Rattle.lists.proofs.Integers.{cond-cases}
 use Rattle.refusal.specs.Checks.{isMode}
 use Rattle.chain.specs.Chain.{tonesOf}
@@ -15,9 +15,11 @@ use Rattle.block_encoder.specs.Encoding.{firstBadCode, encodeBlock, sentInto, e
 use Rattle.block_encoder.specs.declared.Encoded.{Encoded}
 use Rattle.block_decoder.specs.Decoding.{decodeBlock, decodedInto}
 use Rattle.block_decoder.specs.declared.BlockDecoded.{BlockDecoded}
-use Rattle.demands.specs.Demand.{missingIn, replacedIn, Covered}
-use Rattle.demands.proofs.Demands.{sends, demand3}
-use Rattle.trial.specs.Tried.{air, trialOf, Tried}
+use Rattle.demands.specs.Demand.{missingIn, replacedIn}
+use Rattle.demands.specs.Laws.{air}
+use Rattle.demands.proofs.Sent.{sends, air-sent}
+use Rattle.demands.proofs.Demands.{demand3}
+use Rattle.trial.specs.Tried.{trialOf, Tried}
 
 -- the tones written are within the output
 pub sent-fits : (b : ℕ) (text tones : List ℕ) → countSent (encodeBlock b text (length tones)) ≤ length (encodedInto b text tones)
@@ -29,13 +31,6 @@ sent-fits b text tones =
     cond-cases P (ltb (length tones) 64) _ _ (λ _. zero-le) (λ _.
     cond-cases P (ltb (firstBadCode text) b) _ _ (λ _. zero-le) (λ _.
     omega (arith, over-fits (tonesOf b text) tones, tones-length b text)))))
-
--- an accepted text's tones are on the air
-air-sent : (b m : ℕ) (text heard tones one two : List ℕ) → Covered b m text heard tones one two → air b text tones ≡ tonesOf b text
-unfolding air onAir
-air-sent b m text heard tones one two c =
-    ap₂ take (ap countSent (sends b text tones (c .settings .mode) (c .codes) (c .room-sent))) (demand3 .met b m text heard tones one two c .sent)
-    ∙ take-over (tonesOf b text) tones 64 (tones-length b text)
 
 module _
     (b m : ℕ) (text heard tones one two tones′ one′ two′ : List ℕ) (sent : Encoded) (first second : BlockDecoded) (n r u : ℕ)
@@ -63,7 +58,7 @@ module _
           first-heard = rw on-air at (heard-first .1);
           second-heard = heard-second .1;
           demand = λ c.
-              let clean = air-sent b m text heard tones one two c in
-              rw (e0, e1, e2, e3, missing, encoded .1, rw on-air at (heard-first .1), heard-second .1, clean)
+              let on = air-sent b text tones (sends b text tones (c .settings .mode) (c .codes) (c .room-sent)) in
+              rw (e0, e1, e2, e3, missing, encoded .1, rw on-air at (heard-first .1), heard-second .1, on)
               (demand3 .met b m text heard tones one two c);
         }

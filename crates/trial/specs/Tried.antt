@@ -3,14 +3,11 @@ use mathlib.Core.Path.{_≡_}
 use mathlib.Core.List.{List}
 use Prim.Native.Nat.{ℕ}
 use lib.ListN.{length}
-use Rattle.block_encoder.specs.Encoding.{encodeBlock, encodedInto, onAir}
+use Rattle.block_encoder.specs.Encoding.{encodeBlock, encodedInto}
 use Rattle.block_decoder.specs.Decoding.{decodeBlock, decodedInto}
 use Rattle.demands.specs.Demand.{missingIn, replacedIn, Covered, MeetsDemand3}
+use Rattle.demands.specs.Laws.{air}
 use Rattle.demands.specs.declared.Trial.{Trial}
-
--- what goes on the air for a text, by way of an output
-unfoldable pub air : ℕ → List ℕ → List ℕ → List ℕ
-air b text tones = onAir (encodeBlock b text (length tones)) (encodedInto b text tones)
 
 unfoldable pub trialOf : ℕ → ℕ → List ℕ → List ℕ → List ℕ → List ℕ → List ℕ → Trial
 trialOf b m text heard tones one two = record {

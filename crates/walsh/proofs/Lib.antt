@@ -1,6 +1,5 @@
 pub mod Signed
 pub mod Signs
-pub mod Orthogonal
 pub mod Butterflies
 pub mod Locals
 pub mod Halves

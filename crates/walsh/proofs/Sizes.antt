@@ -49,15 +49,18 @@ step-within {b} {x} w e =
     (λ l. omega (arith, abs-add (at x (2 * i)) (at x (2 * i + 1)), w .within (2 * i), w .within (2 * i + 1)))
     (λ j q. omega (arith, abs-sub (at x (2 * j + 1)) (at x (2 * j)), w .within (2 * j), w .within (2 * j + 1)))))
 
-pub correlations-within : {b : ℕ} (x : List ℤ) → Within b x → Within (64 * b) (correlationsOf (at x))
-unfolding correlationsOf corr
-correlations-within {b} x w =
-    tab-within (64 * b) (corr (at x)) (λ c.
+pub corr-within : (N : ℕ) (h : ℕ → ℤ) (c : ℕ) → ((t : ℕ) → t < 64 → natAbs (h t) ≤ N) → natAbs (corr h c) ≤ 64 * N
+unfolding corr
+corr-within N h c small =
     omega (
       arith,
-      abs-sum 64 (λ t. signed (minus c t) (at x t)),
-      total-within 64 b (λ t. natAbs (signed (minus c t) (at x t))) (λ t. omega (arith, abs-signed (minus c t) (at x t), w .within t)),
-    ))
+      abs-sum 64 (λ t. signed (minus c t) (h t)),
+      total-within 64 N (λ t. natAbs (signed (minus c t) (h t))) (λ t l. omega (arith, abs-signed (minus c t) (h t), small t l)),
+    )
+
+pub correlations-within : {b : ℕ} (x : List ℤ) → Within b x → Within (64 * b) (correlationsOf (at x))
+unfolding correlationsOf
+correlations-within {b} x w = tab-within (64 * b) (corr (at x)) (λ c. corr-within b (at x) c (λ t l. w .within t))
 
 -- ---- six steps
 

@@ -2,6 +2,7 @@ use borrow.Author.Needs.{needs}
 use Rattle.trial.specs.Tried.{trialOf}
 use Rattle.olivia.specs.Told.{trialTold}
 use Rattle.olivia.proofs.Carried.{block-sent-small, block-heard-small}
+use Rattle.olivia.proofs.TrialsTold.{tried-told}
 use Rattle.olivia.proofs.olivia_trial_run.Statement.{statement}
 use Rattle.olivia.proofs.olivia_trial_run.Tie as tie
 
@@ -40,12 +41,9 @@ unfolding trialTold
 returns c =
     let first = c .before .before .before in
     let ran = first .before .before .before .before .before .before .before .before .before .before .run in
-    record {
-      answers =
-          rw (first .before .told-encoded .ensures, first .told-decoded .ensures, c .before .before .told-decoded2 .ensures, c .before .capped .ensures, c .capped2 .ensures)
-          (λ i. trialTold (ran .ensures .answers i));
-      tried = rw (ran .ensures .answers) at (ran .ensures);
-    }
+    tried-told _ _ _ _ _ _ _ _ _ _ (ran .result) _
+    (rw (first .before .told-encoded .ensures, first .told-decoded .ensures, c .before .before .told-decoded2 .ensures, c .before .capped .ensures, c .capped2 .ensures))
+    (ran .ensures)
 
 pub olivia-trial-run-spec : {M : Type 1} → statement M
 olivia-trial-run-spec =

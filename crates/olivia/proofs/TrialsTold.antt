@@ -1,0 +1,63 @@
+-- Demand 3 of a trial is demand 3 of what C is told of it.
+use mathlib.Core.Path.{_≡_, _∙_, ap}
+use mathlib.Core.List.{List}
+use mathlib.Core.Logic.{⊎-elim, inl, inr}
+use Prim.Native.Nat.{ℕ, _≤_}
+use native.Mathlib.Omega.{arith}
+use Rattle.block_encoder.specs.declared.Encoded.{Encoded}
+use Rattle.block_decoder.specs.declared.Decoded.{Decoded}
+use Rattle.block_decoder.specs.declared.BlockDecoded.{BlockDecoded}
+use Rattle.demands.specs.Demand.{Gives, RefusesAsUnclear, MeetsDemand3}
+use Rattle.demands.specs.declared.Trial.{Trial}
+use Rattle.trial.specs.Tried.{Tried}
+use Rattle.olivia.specs.Told.{encodedTold, decodedTold, capped, trialTold}
+use Rattle.olivia.specs.Tried.{GivesForC, RefusesForC, MeetsDemand3ForC, TriedForC}
+use Rattle.olivia.specs.declared.TrialAnswers.{TrialAnswers}
+
+module _ (b m : ℕ) (text out out′ : List ℕ) (d : BlockDecoded) where
+  gives-told : Gives b text d out out′ → GivesForC b text (decodedTold (d .answer)) out out′
+  gives-told g = record {
+    number = ap (λ (a : Decoded). decodedTold a .number) (g .accepted);
+    count = ap (λ (a : Decoded). decodedTold a .count) (g .accepted);
+    written = g .written;
+  }
+
+  refuses-told : RefusesAsUnclear b m d out out′ → RefusesForC b m (decodedTold (d .answer)) out out′
+  refuses-told u = record {
+    number = ap (λ (a : Decoded). decodedTold a .number) (u .refused);
+    place = omega (arith, ap (λ (a : Decoded). decodedTold a .place) (u .refused), u .inside);
+    lead = omega (arith, ap (λ (a : Decoded). decodedTold a .lead) (u .refused), u .unclear);
+    kept = u .kept;
+  }
+
+-- a count within a block is told as it is
+small-count : (n : ℕ) → n ≤ 64 → capped n ≡ n
+unfolding capped
+small-count n h = omega arith
+
+module _ (b m : ℕ) (text heard tones tones′ one one′ two two′ : List ℕ) (t : Trial) where
+  demand-told : MeetsDemand3 b m text t tones tones′ one one′ two two′ → MeetsDemand3ForC b m text (trialTold t) tones tones′ one one′ two two′
+  unfolding trialTold
+  demand-told d =
+      let r : capped (t .replaced) ≡ t .replaced = small-count (t .replaced) (omega (arith, d .places)) in
+      let u : capped (t .missing) ≡ t .missing = small-count (t .missing) (omega (arith, d .places)) in
+      record {
+        accepted = ap (λ (e : Encoded). encodedTold e .number) (d .accepted);
+        count = ap (λ (e : Encoded). encodedTold e .count) (d .accepted);
+        sent = d .sent;
+        first = gives-told b m text one one′ (t .first) (d .first);
+        places = omega (arith, d .places);
+        same = λ g. gives-told b m text two two′ (t .second) (d .same (omega arith));
+        no-other = λ g.
+            ⊎-elim (λ x. inl (gives-told b m text two two′ (t .second) x)) (λ x. inr (refuses-told b m text two two′ (t .second) x)) (d .no-other (omega arith));
+      }
+
+  pub tried-told : (r : TrialAnswers) → r ≡ trialTold t → Tried b m text heard t tones tones′ one one′ two two′
+      → TriedForC b m text heard r tones tones′ one one′ two two′
+  tried-told r e tried = record {
+    answers = e ∙ ap trialTold (tried .answers);
+    sent = tried .sent;
+    first-heard = tried .first-heard;
+    second-heard = tried .second-heard;
+    demand = λ c. rw e (demand-told (tried .demand c));
+  }

@@ -1,0 +1,2 @@
+pub mod Orthogonal
+pub mod References
