@@ -2,13 +2,14 @@
 
 mod groups;
 
-use groups::{cases, compare, demand3, sheet, vectors, Report};
+use groups::{cases, compare, demand3, sheet, vectors, words, Report};
 use std::process::ExitCode;
 
 type Group = (&'static str, fn() -> Report);
 
-const GROUPS: [Group; 5] = [
+const GROUPS: [Group; 6] = [
     ("vectors", vectors::run),
+    ("words", words::run),
     ("sheet", sheet::run),
     ("cases", cases::run),
     ("compare", compare::run),

@@ -132,6 +132,7 @@ module _ (s j : ℕ) (y : ℤ) (x : ℕ → ℤ) (high low n : ℕ) (h : Blocks 
       present e r g k =
           h e (s + r) g (omega arith) ∙ ap (λ (t : Bool). cond t (signed (minusIn j high e) y) (pos 0)) (same-test r)
 
+-- k more make of them the word whose digits are those of high, and then those of low
 word-from : (k j : ℕ) (y : ℤ) (x : ℕ → ℤ) (high low n : ℕ) → low < 2 ^ k → Blocks (2 ^ k) j y x high low n
     → (t : ℕ) → t < n * 2 ^ k → references k x t ≡ signed (minusIn (k + j) (high * 2 ^ k + low) t) y
 unfolding references

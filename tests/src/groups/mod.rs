@@ -7,6 +7,7 @@ pub mod demand3;
 mod lent;
 pub mod sheet;
 pub mod vectors;
+pub mod words;
 
 use olivia_tests::library::Answer;
 use olivia_tests::paper::Refusal;

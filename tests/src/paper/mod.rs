@@ -16,7 +16,9 @@ pub use frequencies::frequency;
 pub use hearing::{decode_block, symbol_of, Heard};
 pub use messages::{decode_message, encode_message};
 pub use refusals::Refusal;
-pub use sending::{block_tones, code_bit, encode_block, place_in_symbol, tone_of};
+pub use sending::{
+    block_tones, code_bit, encode_block, key_bit, place_in_symbol, reference_word, tone_of,
+};
 
 /// "A block is 64 symbols."
 pub const SYMBOLS: usize = 64;

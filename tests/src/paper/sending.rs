@@ -22,6 +22,23 @@ pub fn code_bit(v: u8, t: usize) -> u16 {
     u16::from(minus)
 }
 
+/// "This is the order of the reference butterfly: first minus second above, first plus second below." Document 000, 3.5, begins with 1
+/// at the place of the word, or -1 for a code from 64 up, and 0 elsewhere, and goes from distance 32 to distance 1.
+pub fn reference_word(v: u8) -> [i32; SYMBOLS] {
+    let mut word = [0; SYMBOLS];
+    word[usize::from(v % 64)] = if v < 64 { 1 } else { -1 };
+    for distance in [32, 16, 8, 4, 2, 1] {
+        for pairs in (0..SYMBOLS).step_by(2 * distance) {
+            for place in pairs..pairs + distance {
+                let (first, second) = (word[place], word[place + distance]);
+                word[place] = first - second;
+                word[place + distance] = first + second;
+            }
+        }
+    }
+    word
+}
+
 /// "The bit of character q at t is XORed with key bit (13 × q + t) mod 64."
 pub fn key_bit(q: usize, t: usize) -> u16 {
     (KEY >> ((13 * q + t) % 64)) as u16 & 1
