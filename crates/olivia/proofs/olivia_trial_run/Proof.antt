@@ -1,3 +1,4 @@
+use mathlib.Core.Path.{refl}
 use borrow.Author.Needs.{needs}
 use Rattle.trial.specs.Tried.{trialOf}
 use Rattle.olivia.specs.Told.{trialTold}
@@ -42,7 +43,7 @@ returns c =
     let first = c .before .before .before in
     let ran = first .before .before .before .before .before .before .before .before .before .before .run in
     tried-told _ _ _ _ _ _ _ _ _ _ (ran .result) _
-    (rw (first .before .told-encoded .ensures, first .told-decoded .ensures, c .before .before .told-decoded2 .ensures, c .before .capped .ensures, c .capped2 .ensures))
+    (rw (first .before .told-encoded .ensures, first .told-decoded .ensures, c .before .before .told-decoded2 .ensures, c .before .capped .ensures, c .capped2 .ensures) refl)
     (ran .ensures)
 
 pub olivia-trial-run-spec : {M : Type 1} → statement M
