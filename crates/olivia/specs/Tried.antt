@@ -21,7 +21,8 @@ pub record GivesForC (b : ℕ) (text : List ℕ) (a : Answer) (out out′ : List
   pub count : a .count ≡ b
   pub written : out′ ≡ over text out
 
--- a block is refused as unclear: number 10, with a place in the block and a lead under m, and nothing is written
+-- a block is refused as unclear: number 10, with a place in the block and a lead under m, and nothing is written; that they are those of
+-- the lowest unclear character is in `answers`, below
 pub record RefusesForC (b m : ℕ) (a : Answer) (out out′ : List ℕ) : Type 0 where
   pub number : a .number ≡ 10
   pub place : a .place < b
