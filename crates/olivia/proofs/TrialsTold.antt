@@ -1,15 +1,17 @@
 -- Demand 3 of a trial is demand 3 of what C is told of it.
-use mathlib.Core.Path.{_≡_, _∙_, ap}
+use mathlib.Core.Path.{_≡_, sym, _∙_, ap}
 use mathlib.Core.List.{List}
 use mathlib.Core.Logic.{⊎-elim, inl, inr}
 use Prim.Native.Nat.{ℕ, _≤_}
 use native.Mathlib.Omega.{arith}
+use lib.ListN.{length}
 use Rattle.block_encoder.specs.declared.Encoded.{Encoded}
+use Rattle.block_decoder.specs.Decoding.{leadIn, decodeBlock}
 use Rattle.block_decoder.specs.declared.Decoded.{Decoded}
 use Rattle.block_decoder.specs.declared.BlockDecoded.{BlockDecoded}
 use Rattle.demands.specs.Demand.{Gives, RefusesAsUnclear, MeetsDemand3}
 use Rattle.demands.specs.declared.Trial.{Trial}
-use Rattle.trial.specs.Tried.{Tried}
+use Rattle.trial.specs.Tried.{trialOf, Tried}
 use Rattle.olivia.specs.Told.{encodedTold, decodedTold, capped, trialTold}
 use Rattle.olivia.specs.Tried.{GivesForC, RefusesForC, MeetsDemand3ForC, TriedForC}
 use Rattle.olivia.specs.declared.TrialAnswers.{TrialAnswers}
@@ -22,13 +24,18 @@ module _ (b m : ℕ) (text out out′ : List ℕ) (d : BlockDecoded) where
     written = g .written;
   }
 
-  refuses-told : RefusesAsUnclear b m d out out′ → RefusesForC b m (decodedTold (d .answer)) out out′
-  refuses-told u = record {
-    number = ap (λ (a : Decoded). decodedTold a .number) (u .refused);
-    place = omega (arith, ap (λ (a : Decoded). decodedTold a .place) (u .refused), u .inside);
-    lead = omega (arith, ap (λ (a : Decoded). decodedTold a .lead) (u .refused), u .unclear);
-    kept = u .kept;
-  }
+  refuses-told : RefusesAsUnclear b m d out out′ → RefusesForC b m (d .characters) (decodedTold (d .answer)) out out′
+  refuses-told u =
+      let place : decodedTold (d .answer) .place ≡ u .place = ap (λ (a : Decoded). decodedTold a .place) (u .refused) in
+      let lead : decodedTold (d .answer) .lead ≡ leadIn (d .characters) (u .place) = ap (λ (a : Decoded). decodedTold a .lead) (u .refused) in
+      record {
+        number = ap (λ (a : Decoded). decodedTold a .number) (u .refused);
+        inside = omega (arith, u .inside);
+        lead = lead ∙ ap (leadIn (d .characters)) (sym place);
+        unclear = omega (arith, u .unclear);
+        lowest = λ q l. u .lowest q (omega arith);
+        kept = u .kept;
+      }
 
 -- a count within a block is told as it is
 small-count : (n : ℕ) → n ≤ 64 → capped n ≡ n
@@ -36,7 +43,8 @@ unfolding capped
 small-count n h = omega arith
 
 module _ (b m : ℕ) (text heard tones tones′ one one′ two two′ : List ℕ) (t : Trial) where
-  demand-told : MeetsDemand3 b m text t tones tones′ one one′ two two′ → MeetsDemand3ForC b m text (trialTold t) tones tones′ one one′ two two′
+  demand-told : MeetsDemand3 b m text t tones tones′ one one′ two two′
+      → MeetsDemand3ForC b m text (t .second .characters) (trialTold t) tones tones′ one one′ two two′
   unfolding trialTold
   demand-told d =
       let r : capped (t .replaced) ≡ t .replaced = small-count (t .replaced) (omega (arith, d .places)) in
@@ -54,10 +62,13 @@ module _ (b m : ℕ) (text heard tones tones′ one one′ two two′ : List ℕ
 
   pub tried-told : (r : TrialAnswers) → r ≡ trialTold t → Tried b m text heard t tones tones′ one one′ two two′
       → TriedForC b m text heard r tones tones′ one one′ two two′
-  tried-told r e tried = record {
-    answers = e ∙ ap trialTold (tried .answers);
-    sent = tried .sent;
-    first-heard = tried .first-heard;
-    second-heard = tried .second-heard;
-    demand = λ c. rw e (demand-told (tried .demand c));
-  }
+  unfolding trialOf
+  tried-told r e tried =
+      let second : decodeBlock b m heard (length two) .characters ≡ t .second .characters = ap (λ (x : Trial). x .second .characters) (sym (tried .answers)) in
+      record {
+        answers = e ∙ ap trialTold (tried .answers);
+        sent = tried .sent;
+        first-heard = tried .first-heard;
+        second-heard = tried .second-heard;
+        demand = λ c. rw (e, second) (demand-told (tried .demand c));
+      }

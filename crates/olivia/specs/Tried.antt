@@ -4,10 +4,12 @@ use mathlib.Core.Path.{_≡_}
 use mathlib.Core.List.{List}
 use mathlib.Core.Logic.{_⊎_}
 use Prim.Native.Nat.{ℕ, _+_, _*_, _<_, _≤_}
+use lib.ListN.{length}
 use Rattle.lists.specs.Lists.{over}
+use Rattle.decision.specs.declared.Character.{Character}
 use Rattle.chain.specs.Chain.{tonesOf}
 use Rattle.block_encoder.specs.Encoding.{encodedInto}
-use Rattle.block_decoder.specs.Decoding.{decodedInto}
+use Rattle.block_decoder.specs.Decoding.{leadIn, decodeBlock, decodedInto}
 use Rattle.demands.specs.Demand.{Covered}
 use Rattle.demands.specs.Laws.{air}
 use Rattle.trial.specs.Tried.{trialOf}
@@ -21,27 +23,29 @@ pub record GivesForC (b : ℕ) (text : List ℕ) (a : Answer) (out out′ : List
   pub count : a .count ≡ b
   pub written : out′ ≡ over text out
 
--- a block is refused as unclear: number 10, with a place in the block and a lead under m, and nothing is written; that they are those of
--- the lowest unclear character is in `answers`, below
-pub record RefusesForC (b m : ℕ) (a : Answer) (out out′ : List ℕ) : Type 0 where
+-- a block of these characters is refused as unclear: number 10, with the place and lead of the lowest unclear one, and nothing is written
+pub record RefusesForC (b m : ℕ) (characters : List Character) (a : Answer) (out out′ : List ℕ) : Type 0 where
   pub number : a .number ≡ 10
-  pub place : a .place < b
-  pub lead : a .lead < m
+  pub inside : a .place < b
+  pub lead : a .lead ≡ leadIn characters (a .place)
+  pub unclear : a .lead < m
+  pub lowest : (q : ℕ) → q < a .place → m ≤ leadIn characters q
   pub kept : out′ ≡ out
 
--- demand 3, by the numbers that C gets
-pub record MeetsDemand3ForC (b m : ℕ) (text : List ℕ) (r : TrialAnswers) (tones tones′ one one′ two two′ : List ℕ) : Type 0 where
+-- demand 3, by the numbers that C gets; the characters are those that the second receiver decided
+pub record MeetsDemand3ForC (b m : ℕ) (text : List ℕ) (characters : List Character) (r : TrialAnswers) (tones tones′ one one′ two two′ : List ℕ) : Type 0 where
   pub accepted : r .encoded .number ≡ 0
   pub count : r .encoded .count ≡ 64
   pub sent : tones′ ≡ over (tonesOf b text) tones
   pub first : GivesForC b text (r .first) one one′
   pub places : r .replaced + r .missing ≤ 64
   pub same : m + 2 * r .missing + 4 * r .replaced ≤ 64 → GivesForC b text (r .second) two two′
-  pub no-other : 2 * r .missing + 4 * r .replaced < 64 + m → GivesForC b text (r .second) two two′ ⊎ RefusesForC b m (r .second) two two′
+  pub no-other : 2 * r .missing + 4 * r .replaced < 64 + m → GivesForC b text (r .second) two two′ ⊎ RefusesForC b m characters (r .second) two two′
 
 pub record TriedForC (b m : ℕ) (text heard : List ℕ) (r : TrialAnswers) (tones tones′ one one′ two two′ : List ℕ) : Type 0 where
   pub answers : r ≡ trialTold (trialOf b m text heard tones one two)
   pub sent : tones′ ≡ encodedInto b text tones
   pub first-heard : one′ ≡ decodedInto b m (air b text tones) one
   pub second-heard : two′ ≡ decodedInto b m heard two
-  pub demand : Covered b m text heard tones one two → MeetsDemand3ForC b m text r tones tones′ one one′ two two′
+  pub demand : Covered b m text heard tones one two
+      → MeetsDemand3ForC b m text (decodeBlock b m heard (length two) .characters) r tones tones′ one one′ two two′
