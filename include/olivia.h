@@ -102,8 +102,8 @@ olivia_hertz olivia_frequency(uint32_t mode, uint32_t width, uint32_t centre, ui
  * than the one sent is heard, and no mark. If text is b codes below 128, heard is 64 tones below 2^b or marks,
  * and no setting or room is refused, then encoded has number 0 and count 64, and first number 0 and count b with
  * text in one. If 64 - 2u - 4r is at least the set lead, second has number 0 and count b with text in two. If
- * 2u + 4r is below 64 plus the set lead, second is that, or has number 10, a place below b and a lead below the
- * set lead, with two as it was. */
+ * 2u + 4r is below 64 plus the set lead, second is that, or has number 10 with the place and lead of the lowest
+ * unclear character, and two is as it was. */
 olivia_trial olivia_trial_run(uint32_t mode, uint32_t least_lead, const uint8_t *text, size_t n,
                               const uint16_t *heard, size_t heard_n, uint16_t *tones, size_t tones_room,
                               uint8_t *one, size_t one_room, uint8_t *two, size_t two_room);

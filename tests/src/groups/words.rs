@@ -1,7 +1,7 @@
 //! The words of all codes: the reference butterfly, the rule of document 01 and the library's tones of mode 1 have one sign at each place.
 
 use super::{expect_equal, Report};
-use olivia_tests::library;
+use olivia_tests::library::{self, Answer};
 use olivia_tests::paper::{self, SYMBOLS};
 
 pub fn run() -> Report {
@@ -19,7 +19,12 @@ fn signs(code: u8) -> Result<(), String> {
         &bits(|t| paper::code_bit(code, t)),
     )?;
     let mut tones = [0; SYMBOLS];
-    library::encode_block(1, &[code], &mut tones);
+    let accepted = Answer {
+        count: 64,
+        ..Answer::default()
+    };
+    let given = library::encode_block(1, &[code], &mut tones);
+    expect_equal("encode", accepted, given)?;
     let unscrambled = bits(|t| tones[t] ^ paper::key_bit(0, t));
     expect_equal("by the library", &wanted[..], &unscrambled)
 }
