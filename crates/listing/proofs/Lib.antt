@@ -1,1 +1,5 @@
-pub mod StageCases
+pub mod LastLine
+pub mod Lines
+pub mod Room
+pub mod Parts
+pub mod Pieces

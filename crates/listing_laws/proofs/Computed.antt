@@ -14,9 +14,9 @@ use Rattle.chain.specs.Tables.{symbolOf}
 use Rattle.block_decoder.specs.Decoding.{heardSymbol, countOf, countIn, symbolsOf, characterAt, charactersOf, firstUnclear, unlessUnclear, padded, decodeBlock}
 use Rattle.tone_range.specs.Range.{firstBadTone}
 use Rattle.report.specs.Output.{field, heading, placeText, characterText, charactersText, unreadableText, endText, answerText, blockText}
-use Rattle.listing_laws.specs.Listed.{heard, blocksListed, checkedListed, linesListed, listed}
+use Rattle.listing_laws.specs.Listed.{blockHeard, blocksListed, checkedListed, linesListed, listed}
 use Rattle.listing_laws.specs.Laws.{Example}
 
 pub example : Example
-unfolding ones tab sum minus corr better best rival leadOf decisionFor decision over scan keyBit gray symbolOf heardSymbol countOf countIn symbolsOf characterAt charactersOf firstUnclear unlessUnclear padded firstBadTone decodeBlock onFirst lines parts words every valueFrom isNumber isMark isWord isReadableFirst isReadable valueOf valuesOf ascii digits decimal field heading placeText characterText charactersText unreadableText endText answerText blockText heard blocksListed checkedListed linesListed listed
+unfolding ones tab sum minus corr better best rival leadOf decisionFor decision over scan keyBit gray symbolOf heardSymbol countOf countIn symbolsOf characterAt charactersOf firstUnclear unlessUnclear padded firstBadTone decodeBlock onFirst lines parts words every valueFrom isNumber isMark isWord isReadableFirst isReadable valueOf valuesOf ascii digits decimal field heading placeText characterText charactersText unreadableText endText answerText blockText blockHeard blocksListed checkedListed linesListed listed
 example = record { key-bits = refl; empty = refl }

@@ -12,8 +12,7 @@ use lib.Seq.{take-all, getD-take}
 use Rattle.lists.specs.Lists.{num, every}
 use Rattle.text.specs.Ascii.{lineFeed}
 use Rattle.reader_laws.specs.Input.{onFirst, lines, words, isWord, isReadableFirst, isReadable, valuesOf}
-use Rattle.reader.specs.Reader.{fresh, lineEnd}
-use Rattle.reader_laws.specs.Read.{readLine}
+use Rattle.reader.specs.Reader.{fresh, lineEnd, readLine}
 use Rattle.reader_laws.proofs.LineReading.{reading}
 use Rattle.reader_laws.proofs.KeptSizes.{read-size, end-size}
 use Rattle.refusal.specs.Checks.{isMode, isLead}
@@ -23,11 +22,15 @@ use Rattle.block_decoder.specs.declared.BlockDecoded.{BlockDecoded}
 use Rattle.block_decoder.proofs.DecodeCases.{refuses-count}
 use Rattle.stages.specs.declared.Listing.{Listing}
 use Rattle.report.specs.Output.{heading, blockText, refusedText, unreadableText}
-use Rattle.listing_laws.specs.Listed.{heard, blocksListed, checkedListed, linesListed, listed}
-use Rattle.stages.specs.Stages.{Said, begun, hearing, stopped, stops, endingText}
-use Rattle.listing.specs.Steps.{checkedSaid, settingsSaid, decodedSaid, blockSaid, judged, closed, lastLine, finished, printed, goesOn}
-use Rattle.listing_laws.specs.Laws.{Whole}
-use Rattle.listing_laws.proofs.Pieces.{lineRead, tonesRead, lineSaid, lineTones, fromLines, printed-lines, stopped-lines, silent}
+use Rattle.listing_laws.specs.Listed.{blockHeard, blocksListed, checkedListed, linesListed, listed}
+use Rattle.stages.specs.Stages.{Said, begun, hearing, stopped, stops, isStopped, endingText}
+use Rattle.judge.specs.Judged.{checkedSaid, settingsSaid, decodedSaid, blockSaid, judged, closed, goesOn}
+use Rattle.listing.specs.Steps.{lastLine, andThen, ended, heard}
+use Rattle.listing.specs.Internal.{lineRead, tonesRead}
+use Rattle.listing.proofs.Lines.{lineSaid, lineTones}
+use Rattle.listing_laws.specs.Printed.{isPiece, together, piecesSaid, printed}
+use Rattle.listing_laws.specs.Laws.{Whole, Live, Stops}
+use Rattle.listing_laws.proofs.Pieces.{fromLines, printed-lines, last-ending, at-once, stopped-lines, silent}
 
 -- ---- sizes
 
@@ -74,13 +77,13 @@ module _ (b m : ℕ) (e : isMode b ≡ true) (f : isLead m ≡ true) where
         let same : (k + 2) % 2 ^ 64 ≡ k + 2 = omega arith in
         rw (reading .readable true line, h, same)
 
-    heard-said : isReadable line ≡ true → length tones ≡ 256 → lineSaid (hearing b m k) tones line ≡ decodedSaid b m k (heard b m line)
-    unfolding lineSaid lineRead tonesRead closed judged blockSaid isReadable heard
+    heard-said : isReadable line ≡ true → length tones ≡ 256 → lineSaid (hearing b m k) tones line ≡ decodedSaid b m k (blockHeard b m line)
+    unfolding lineSaid lineRead tonesRead closed judged blockSaid isReadable blockHeard
     heard-said h size =
         rw (reading .readable true line, h, reading .kept true line tones size h)
         (ap (decodedSaid b m k) (same-heard (valuesOf line)))
 
-  -- the next line is heard if the answer lets the listing go on
+  -- the next line is blockHeard if the answer lets the listing go on
   goes-on : (k : ℕ) (d : BlockDecoded) (tones x : List ℕ) (ls : List (List ℕ))
       → fromLines (hearing b m ((k + 1) % 2 ^ 64)) tones ls ≡ x
       → decodedSaid b m k d .text ++ fromLines (decodedSaid b m k d .next) tones ls ≡ blockText k d ++ cond (goesOn (d .answer)) x []
@@ -96,7 +99,7 @@ module _ (b m : ℕ) (e : isMode b ≡ true) (f : isLead m ≡ true) where
 
   blocks-listed : (ls : List (List ℕ)) (k : ℕ) (tones : List ℕ) → length tones ≡ 256 → k + length ls + 2 ≤ 2 ^ 64
       → fromLines (hearing b m k) tones ls ≡ blocksListed b m k ls
-  unfolding fromLines finished lastLine endingText blocksListed
+  unfolding fromLines ended andThen lastLine endingText blocksListed
   blocks-listed [] k tones size few = refl
   blocks-listed (line ∷ ls) k tones size few = by (isReadable line) refl (blocks-listed ls (suc k))
     where
@@ -107,7 +110,7 @@ module _ (b m : ℕ) (e : isMode b ≡ true) (f : isLead m ≡ true) where
       by true h r =
           let next : (k + 1) % 2 ^ 64 ≡ suc k = omega arith in
           rw (h, heard-said k line tones h size)
-          (goes-on k (heard b m line) (lineTones (hearing b m k) tones line) (blocksListed b m (suc k) ls) ls
+          (goes-on k (blockHeard b m line) (lineTones (hearing b m k) tones line) (blocksListed b m (suc k) ls) ls
           (rw next (r (lineTones (hearing b m k) tones line) (line-size (hearing b m k) tones line ∙ size) (omega arith))))
 
 -- ---- line 1
@@ -158,7 +161,7 @@ module _ (line tones : List ℕ) (size : length tones ≡ 256) where
           )
 
 lines-listed : (ls : List (List ℕ)) (tones : List ℕ) → length tones ≡ 256 → length ls < 2 ^ 64 → fromLines begun tones ls ≡ linesListed ls
-unfolding fromLines finished lastLine endingText linesListed
+unfolding fromLines ended andThen lastLine endingText linesListed
 lines-listed [] tones size few = refl
 lines-listed (line ∷ ls) tones size few = rw (settings-said line tones size) (by (isReadableFirst line))
   where
@@ -175,10 +178,31 @@ lines-listed (line ∷ ls) tones size few = rw (settings-said line tones size) (
     by true = checked-listed b m (lineTones begun tones line) ls (line-size begun tones line ∙ size) (omega arith)
     by false = last-text (unreadableText 1) (lineTones begun tones line) ls
 
-whole-listed : (input tones : List ℕ) → length tones ≡ 256 → length input < 2 ^ 64 → heading ++ printed begun tones input ≡ listed input
-unfolding listed
-whole-listed input tones size few =
-    ap (λ (x : List ℕ). heading ++ x) (printed-lines input begun tones ∙ lines-listed (lines input) tones size (omega (arith, lines-size input)))
+module _ (pieces : List (List ℕ)) (tones : List ℕ) (full : every isPiece pieces ≡ true) (size : length tones ≡ 256) (few : length (together pieces) < 2 ^ 64) where
+  whole-listed : heading ++ printed begun tones pieces ≡ listed (together pieces)
+  unfolding listed
+  whole-listed =
+      ap (λ (x : List ℕ). heading ++ x)
+      (printed-lines pieces begun tones full ∙ lines-listed (lines (together pieces)) tones size (omega (arith, lines-size (together pieces))))
+
+  live-listed : (input : List ℕ) → together pieces ≡ input ++ (lineFeed ∷ []) → let said = piecesSaid begun tones pieces in
+      heading ++ (said .text ++ endingText (said .next .stage) (said .next .blocks)) ≡ listed (together pieces)
+  unfolding printed heard
+  live-listed input e =
+      let once = at-once pieces begun tones full in
+      let ending = (λ i. ended (once .0 i .next) (once .1 i) .text) ∙ last-ending (together pieces) input begun tones e
+      ∙ ap (λ (x : Said). endingText (x .next .stage) (x .next .blocks)) (sym (once .0)) in
+      ap (λ (x : List ℕ). heading ++ (piecesSaid begun tones pieces .text ++ x)) (sym ending) ∙ whole-listed
 
 pub whole : Whole
-whole = record { all = whole-listed; silent = silent }
+whole = record { all = whole-listed }
+
+pub live : Live
+live = record { lines = λ pieces tones input full size few. live-listed pieces tones full size few input }
+
+at-end : (s : Listing) (tones : List ℕ) → isStopped (heard s tones [] .next .stage) ≡ true
+unfolding heard ended andThen
+at-end s tones = refl
+
+pub stops-silent : Stops
+stops-silent = record { at-end = at-end; silent = silent }

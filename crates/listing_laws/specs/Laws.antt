@@ -1,20 +1,34 @@
 -- The laws of the listing. Each is the promise of the function of the same name in src/laws.rt.
 use mathlib.Core.Bool.{true}
-use mathlib.Core.List.{List, [], _++_}
+use mathlib.Core.List.{List, [], _∷_, _++_}
 use mathlib.Core.Path.{_≡_}
 use Prim.Native.Nat.{ℕ, _<_, _^_}
 use lib.ListN.{length}
-use Rattle.text.specs.Ascii.{ascii}
+use Rattle.lists.specs.Lists.{every}
+use Rattle.text.specs.Ascii.{ascii, lineFeed}
 use Rattle.stages.specs.declared.Listing.{Listing}
 use Rattle.report.specs.Output.{heading}
 use Rattle.listing_laws.specs.Listed.{listed}
-use Rattle.stages.specs.Stages.{begun, isStopped}
-use Rattle.listing.specs.Steps.{printed}
+use Rattle.stages.specs.Stages.{begun, isStopped, endingText}
+use Rattle.listing.specs.Steps.{heard}
+use Rattle.listing_laws.specs.Printed.{isPiece, together, piecesSaid, printed}
 
--- what is printed for an input of any bytes, byte by byte, is the listing of the whole; a listing that stopped prints nothing more
+-- for every way to cut an input into pieces, what is printed is the listing of the whole
 pub record Whole : Type 0 where
-  pub all : (input tones : List ℕ) → length tones ≡ 256 → length input < 2 ^ 64 → heading ++ printed begun tones input ≡ listed input
-  pub silent : (listing : Listing) (tones input : List ℕ) → isStopped (listing .stage) ≡ true → printed listing tones input ≡ []
+  pub all : (pieces : List (List ℕ)) (tones : List ℕ) → every isPiece pieces ≡ true → length tones ≡ 256 → length (together pieces) < 2 ^ 64
+      → heading ++ printed begun tones pieces ≡ listed (together pieces)
+
+-- a line is printed as soon as its line feed is heard: all that is still to come is the text that ends a listing of the lines so far
+pub record Live : Type 0 where
+  pub lines : (pieces : List (List ℕ)) (tones input : List ℕ) → every isPiece pieces ≡ true → length tones ≡ 256 → length (together pieces) < 2 ^ 64
+      → together pieces ≡ input ++ (lineFeed ∷ [])
+      → let said = piecesSaid begun tones pieces in
+      heading ++ (said .text ++ endingText (said .next .stage) (said .next .blocks)) ≡ listed (together pieces)
+
+-- a listing has stopped at the input's end, and one that has stopped prints nothing more
+pub record Stops : Type 0 where
+  pub at-end : (listing : Listing) (tones : List ℕ) → isStopped (heard listing tones [] .next .stage) ≡ true
+  pub silent : (listing : Listing) (tones : List ℕ) (pieces : List (List ℕ)) → isStopped (listing .stage) ≡ true → printed listing tones pieces ≡ []
 
 -- document 01's example, for the key's bits 0 to 63, and what it says of an empty input
 pub record Example : Type 0 where

@@ -9,18 +9,18 @@ use Rattle.refusal.specs.Refused.{refusedAt}
 use Rattle.block_decoder.specs.Decoding.{decodeBlock}
 use Rattle.block_decoder.specs.declared.BlockDecoded.{BlockDecoded}
 use Rattle.report.specs.Output.{heading, blockText, refusedText, unreadableText, endText}
-use Rattle.listing.specs.Steps.{goesOn}
+use Rattle.judge.specs.Judged.{goesOn}
 
 -- hearing the tones of a line, with room for any block's codes
-unfoldable pub heard : ℕ → ℕ → List ℕ → BlockDecoded
-heard b m line = decodeBlock b m (valuesOf line) 8
+unfoldable pub blockHeard : ℕ → ℕ → List ℕ → BlockDecoded
+blockHeard b m line = decodeBlock b m (valuesOf line) 8
 
 -- from block k on, at line k + 2: readability of the whole line is judged first
 unfoldable pub blocksListed : ℕ → ℕ → ℕ → List (List ℕ) → List ℕ
 blocksListed b m k [] = endText k
 blocksListed b m k (line ∷ rest) =
     cond (not (isReadable line)) (unreadableText (k + 2))
-    (blockText k (heard b m line) ++ cond (goesOn (heard b m line .answer)) (blocksListed b m (suc k) rest) [])
+    (blockText k (blockHeard b m line) ++ cond (goesOn (blockHeard b m line .answer)) (blocksListed b m (suc k) rest) [])
 
 -- mode and set lead are checked even if no block follows
 unfoldable pub checkedListed : ℕ → ℕ → List (List ℕ) → List ℕ

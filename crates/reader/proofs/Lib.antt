@@ -1,1 +1,2 @@
 pub mod ReaderCases
+pub mod Stretches

@@ -1,12 +1,16 @@
-// A line of numbers, read byte by byte: document 01, "The listing program". The numbers of the words that ended stand in a lent array.
+// A line of numbers, read piece by piece: document 01, "The listing program". The numbers of the words that ended stand in a lent array.
+use chain::MISSING;
+use text::LINE_FEED;
 use text::SPACE;
 ghost use mathlib.Core.Path.{_≡_};
-ghost use mathlib.Core.Bool.{_&&_};
-ghost use Prim.Native.Nat.{_+_, min};
+ghost use mathlib.Core.Bool.{false, _&&_, cond};
+ghost use Prim.Native.Nat.{_+_, _≤_, min};
 ghost use lib.Dec.{eqb};
 ghost use Rattle.text.specs.Ascii.{hyphen};
 ghost use Rattle.text.specs.Decimal.{isDigit};
-ghost use Rattle.reader.specs.Reader.{numberWith, withDigit, withMark, nextWord, isWhole, isEmpty, toneIn, wordEnd, keptTone, nextLine, nextTones, isBlank, lineEnd, endTones, isRead};
+ghost use Rattle.reader.specs.declared.Word.the-variants.{Unreadable};
+ghost use Rattle.reader.specs.Reader.{withDigit, withMark, isEmpty, wordEnd, keptTone, nextLine, nextTones, isBlank, lineEnd, endTones, isRead, lineFrom, stretch, readTones};
+ghost use Rattle.reader.specs.Internal.{wordOf, lineOf, digitRead};
 
 // The tones of a line that are kept, one for each count: more than a block has, so that a longer line is seen to be one.
 pub const TONES: usize = 256;
@@ -14,14 +18,10 @@ pub const TONES: usize = 256;
 // The mark of a missing tone.
 const HYPHEN: u8 = b'-';
 
-// The largest number that may stand in the input.
-const LARGEST: u32 = 65535;
-
-// What was read of a word: nothing yet, a number, the mark of a missing tone, or what is no word, here or earlier in the line.
+// What was read of a word: nothing yet, a number, or what is no word, here or earlier in the line. A mark is the missing tone's number.
 pub enum Word {
     Empty,
     Number(u16),
-    Missing,
     Unreadable,
 }
 
@@ -31,18 +31,53 @@ pub struct Line {
     pub count: u8,
 }
 
-// One byte more, which is no line feed. A hyphen is a word where marks may stand.
-pub fn read(line: Line, marks: bool, byte: u8, tones: &mut [u16; TONES]) -> Line
-    ensures answer { λ r. ⌜ r ≡ nextLine marks line byte ⌝ }
-    ensures output { λ _. ⌜ now (tones .exit) ≡ nextTones line byte (now (tones .entry)) ⌝ }
+// A line with more of it read, and the place of what was not read: a line feed, or the end of the bytes.
+pub struct Stretch {
+    pub line: Line,
+    pub at: usize,
+}
+
+// A line while it is read. The word is its number, EMPTY, or UNREADABLE: two plain numbers stay in registers.
+struct Reading {
+    word: usize,
+    count: usize,
+}
+
+const EMPTY: usize = 65536;
+
+const UNREADABLE: usize = 65537;
+
+// The bytes from a place on, up to a line feed. A hyphen is a word where marks may stand. Most bytes are digits, so they are asked for first.
+pub fn read_line(
+    line: Line,
+    marks: bool,
+    bytes: &[u8],
+    from: usize,
+    tones: &mut [u16; TONES],
+) -> Stretch
+    ensures answer { λ r. ⌜ r ≡ stretch marks line (now (bytes .entry)) from ⌝ }
+    ensures output { λ _. ⌜ now (tones .exit) ≡ readTones marks line (lineFrom (now (bytes .entry)) from) (now (tones .entry)) ⌝ }
 {
-    if byte == SPACE {
-        return end_word(line, tones);
+    let mut reading = begun(line);
+    let mut at = from;
+    while at < bytes.len() {
+        let byte = bytes[at];
+        if is_digit(byte) {
+            reading = with_digit(reading, byte - b'0');
+        } else {
+            if byte == LINE_FEED {
+                return Stretch {
+                    line: line_of(reading),
+                    at,
+                };
+            }
+            reading = with_other(reading, marks, byte, tones);
+        }
+        at += 1;
     }
-    let word = line.word;
-    Line {
-        word: next_word(marks, word, byte),
-        count: line.count,
+    Stretch {
+        line: line_of(reading),
+        at,
     }
 }
 
@@ -54,7 +89,8 @@ pub fn end_line(line: Line, tones: &mut [u16; TONES]) -> Line
     if is_blank(line) {
         return line;
     }
-    end_word(line, tones)
+    let ended = end_word(begun(line), tones);
+    line_of(ended)
 }
 
 // Nothing of the line was read.
@@ -79,71 +115,133 @@ fn is_empty(word: Word) -> bool
     match word {
         Word::Empty => true,
         Word::Number(_) => false,
-        Word::Missing => false,
         Word::Unreadable => false,
     }
 }
 
-// A word ends: its tone is kept, and if it is none the line is unreadable.
-fn end_word(line: Line, tones: &mut [u16; TONES]) -> Line
-    ensures answer { λ r. ⌜ r ≡ wordEnd line ⌝ }
-    ensures output { λ _. ⌜ now (tones .exit) ≡ keptTone line (now (tones .entry)) ⌝ }
+fn begun(line: Line) -> Reading
+    ensures answer { λ r. ⌜ lineOf r ≡ line ⌝ }
+    ensures small { λ r. ⌜ r .count ≤ 255 ⌝ }
 {
     let word = line.word;
-    let count = line.count;
-    if !is_whole(word) {
-        return Line {
-            word: Word::Unreadable,
+    Reading {
+        word: number_of(word),
+        count: line.count as usize,
+    }
+}
+
+fn number_of(word: Word) -> usize
+    ensures { λ r. ⌜ wordOf r ≡ word ⌝ }
+{
+    match word {
+        Word::Empty => EMPTY,
+        Word::Number(value) => value as usize,
+        Word::Unreadable => UNREADABLE,
+    }
+}
+
+fn line_of(reading: Reading) -> Line
+    requires { ⌜ reading .count ≤ 255 ⌝ }
+    ensures { λ r. ⌜ r ≡ lineOf reading ⌝ }
+{
+    Line {
+        word: word_of(reading.word),
+        count: reading.count as u8,
+    }
+}
+
+fn word_of(number: usize) -> Word
+    ensures { λ r. ⌜ r ≡ wordOf number ⌝ }
+{
+    if number < EMPTY {
+        return Word::Number(number as u16);
+    }
+    if number == EMPTY {
+        return Word::Empty;
+    }
+    Word::Unreadable
+}
+
+fn with_digit(reading: Reading, digit: u8) -> Reading
+    ensures { λ r. ⌜ lineOf r ≡ digitRead (lineOf reading) digit ⌝ }
+{
+    Reading {
+        word: number_with(reading.word, digit),
+        count: reading.count,
+    }
+}
+
+fn number_with(word: usize, digit: u8) -> usize
+    ensures { λ r. ⌜ wordOf r ≡ withDigit (wordOf word) digit ⌝ }
+{
+    if word == EMPTY {
+        return digit as usize;
+    }
+    if EMPTY < word {
+        return UNREADABLE;
+    }
+    let longer = 10 * word + (digit as usize);
+    if EMPTY <= longer {
+        return UNREADABLE;
+    }
+    longer
+}
+
+// A byte that is no digit and no line feed.
+fn with_other(reading: Reading, marks: bool, byte: u8, tones: &mut [u16; TONES]) -> Reading
+    requires { ⌜ (reading .count ≤ 255) × (isDigit byte ≡ false) ⌝ }
+    ensures answer { λ r. ⌜ lineOf r ≡ nextLine marks (lineOf reading) byte ⌝ }
+    ensures small { λ r. ⌜ r .count ≤ 255 ⌝ }
+    ensures output { λ _. ⌜ now (tones .exit) ≡ nextTones (lineOf reading) byte (now (tones .entry)) ⌝ }
+{
+    if byte == SPACE {
+        return end_word(reading, tones);
+    }
+    Reading {
+        word: with_mark(reading.word, is_mark(marks, byte)),
+        count: reading.count,
+    }
+}
+
+// A word ends: its tone is kept, and if it is none the line is unreadable.
+fn end_word(reading: Reading, tones: &mut [u16; TONES]) -> Reading
+    requires { ⌜ reading .count ≤ 255 ⌝ }
+    ensures answer { λ r. ⌜ lineOf r ≡ wordEnd (lineOf reading) ⌝ }
+    ensures small { λ r. ⌜ r .count ≤ 255 ⌝ }
+    ensures output { λ _. ⌜ now (tones .exit) ≡ keptTone (lineOf reading) (now (tones .entry)) ⌝ }
+{
+    let word = reading.word;
+    let count = reading.count;
+    if EMPTY <= word {
+        return Reading {
+            word: UNREADABLE,
             count,
         };
     }
-    tones[count as usize] = tone_in(word);
-    Line {
-        word: Word::Empty,
+    tones[count] = word as u16;
+    Reading {
+        word: EMPTY,
         count: counted(count),
     }
 }
 
 // One more, up to 255.
-fn counted(count: u8) -> u8
+fn counted(count: usize) -> usize
     ensures { λ r. ⌜ r ≡ min (count + 1) 255 ⌝ }
 {
     if count < 255 { count + 1 } else { 255 }
 }
 
-fn is_whole(word: Word) -> bool
-    ensures { λ r. ⌜ r ≡ isWhole word ⌝ }
+fn with_mark(word: usize, is_mark: bool) -> usize
+    ensures { λ r. ⌜ wordOf r ≡ cond «is_mark» (withMark (wordOf word)) Unreadable ⌝ }
 {
-    match word {
-        Word::Empty => false,
-        Word::Number(_) => true,
-        Word::Missing => true,
-        Word::Unreadable => false,
+    if !is_mark {
+        return UNREADABLE;
     }
-}
-
-fn tone_in(word: Word) -> u16
-    ensures { λ r. ⌜ r ≡ toneIn word ⌝ }
-{
-    match word {
-        Word::Empty => 0,
-        Word::Number(tone) => tone,
-        Word::Missing => chain::MISSING,
-        Word::Unreadable => 0,
+    if word == EMPTY {
+        return MISSING as usize;
     }
-}
-
-// One byte more, which is no space.
-fn next_word(marks: bool, word: Word, byte: u8) -> Word
-    ensures { λ r. ⌜ r ≡ nextWord marks word byte ⌝ }
-{
-    if is_digit(byte) {
-        return with_digit(word, byte - b'0');
-    }
-    if is_mark(marks, byte) {
-        return with_mark(word);
-    }
-    Word::Unreadable
+    UNREADABLE
 }
 
 fn is_digit(byte: u8) -> bool
@@ -156,36 +254,4 @@ fn is_mark(marks: bool, byte: u8) -> bool
     ensures { λ r. ⌜ r ≡ (eqb byte hyphen && marks) ⌝ }
 {
     byte == HYPHEN && marks
-}
-
-fn with_digit(word: Word, digit: u8) -> Word
-    ensures { λ r. ⌜ r ≡ withDigit word digit ⌝ }
-{
-    match word {
-        Word::Empty => number_with(0, digit),
-        Word::Number(value) => number_with(value, digit),
-        Word::Missing => Word::Unreadable,
-        Word::Unreadable => Word::Unreadable,
-    }
-}
-
-fn number_with(value: u16, digit: u8) -> Word
-    ensures { λ r. ⌜ r ≡ numberWith value digit ⌝ }
-{
-    let longer = 10 * (value as u32) + (digit as u32);
-    if LARGEST < longer {
-        return Word::Unreadable;
-    }
-    Word::Number(longer as u16)
-}
-
-fn with_mark(word: Word) -> Word
-    ensures { λ r. ⌜ r ≡ withMark word ⌝ }
-{
-    match word {
-        Word::Empty => Word::Missing,
-        Word::Number(_) => Word::Unreadable,
-        Word::Missing => Word::Unreadable,
-        Word::Unreadable => Word::Unreadable,
-    }
 }

@@ -7,8 +7,7 @@ use lib.Dec.{eqb}
 use lib.ListN.{length, length-set}
 use Rattle.text.specs.Ascii.{space}
 use Rattle.reader.specs.declared.Line.{Line}
-use Rattle.reader.specs.Reader.{isWhole, toneIn, isBlank, nextLine, nextTones, keptTone, endTones}
-use Rattle.reader_laws.specs.Read.{readTones}
+use Rattle.reader.specs.Reader.{isWhole, toneIn, isBlank, nextLine, nextTones, keptTone, endTones, readTones}
 
 either-size : (t : Bool) (x y : List ℕ) (n : ℕ) → length x ≡ n → length y ≡ n → length (cond t x y) ≡ n
 either-size true x y n p q = p

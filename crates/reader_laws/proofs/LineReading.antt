@@ -15,8 +15,7 @@ use Rattle.reader.specs.declared.Word.{Word}
 use Rattle.reader.specs.declared.Word.the-variants.{Empty, Unreadable}
 use Rattle.reader.specs.declared.Line.{Line}
 use Rattle.reader_laws.specs.Input.{onFirst, parts, words, isWord, valueOf, valuesOf}
-use Rattle.reader.specs.Reader.{nextWord, isWhole, isEmpty, toneIn, fresh, wordEnd, keptTone, nextLine, nextTones, isBlank, lineEnd, endTones}
-use Rattle.reader_laws.specs.Read.{readLine, readTones}
+use Rattle.reader.specs.Reader.{nextWord, isWhole, isEmpty, toneIn, fresh, wordEnd, keptTone, nextLine, nextTones, isBlank, lineEnd, endTones, readLine, readTones}
 use Rattle.reader_laws.specs.Laws.{Reading}
 use Rattle.reader.proofs.ReaderCases.{whole-ends, other-ends, begun-ends}
 use Rattle.reader_laws.proofs.WordReading.{wordAfter, byte-not-empty, unreadable-stays, whole-is-word, value-of-word}

@@ -12,7 +12,8 @@ use Rattle.text.specs.Ascii.{hyphen}
 use Rattle.text.specs.Decimal.{isDigit, valueFrom}
 use Rattle.text.proofs.Digits.{digit-range}
 use Rattle.reader.specs.declared.Word.{Word}
-use Rattle.reader.specs.declared.Word.the-variants.{Empty, Number, Missing, Unreadable}
+use Rattle.reader.specs.declared.Word.the-variants.{Empty, Number, Unreadable}
+use Rattle.reader.proofs.ReaderCases.{number-over}
 use Rattle.reader_laws.specs.Input.{isNumber, isMark, isWord, valueOf}
 use Rattle.reader.specs.Reader.{numberWith, withDigit, withMark, nextWord, isWhole, isEmpty, toneIn}
 
@@ -27,7 +28,7 @@ numberFrom v w = cond (every isDigit w && leb (valueFrom v w) 65535) (Number (va
 
 -- the state after a whole word of one byte or more
 unfoldable judgedWord : Bool → Bool → ℕ → Word
-judgedWord number mark v = cond number (Number v) (cond mark Missing Unreadable)
+judgedWord number mark v = cond number (Number v) (cond mark (Number missingMark) Unreadable)
 
 value-grows : (w : List ℕ) (v : ℕ) → v ≤ valueFrom v w
 unfolding valueFrom
@@ -57,13 +58,11 @@ digit-not-empty : (s : Word) (d : ℕ) → isEmpty (withDigit s d) ≡ false
 unfolding withDigit
 digit-not-empty Empty d = number-not-empty 0 d
 digit-not-empty (Number v) d = number-not-empty v d
-digit-not-empty Missing d = refl
 digit-not-empty Unreadable d = refl
 
 mark-not-empty : (s : Word) → isEmpty (withMark s) ≡ false
 mark-not-empty Empty = refl
 mark-not-empty (Number v) = refl
-mark-not-empty Missing = refl
 mark-not-empty Unreadable = refl
 
 module _ (marks : Bool) where
@@ -86,16 +85,16 @@ module _ (marks : Bool) where
   unfolding withDigit
   next-unreadable c = after-byte (λ w. w ≡ Unreadable) Unreadable (λ d. refl) refl refl c
 
-  next-after-mark : (c : ℕ) → nextWord marks Missing c ≡ Unreadable
+  next-after-mark : (c : ℕ) → nextWord marks (Number missingMark) c ≡ Unreadable
   unfolding withDigit
-  next-after-mark c = after-byte (λ w. w ≡ Unreadable) Missing (λ d. refl) refl refl c
+  next-after-mark c = after-byte (λ w. w ≡ Unreadable) (Number missingMark) (λ d. number-over missingMark d (omega arith)) refl refl c
 
   pub unreadable-stays : (w : List ℕ) → wordAfter marks Unreadable w ≡ Unreadable
   unfolding wordAfter
   unreadable-stays [] = refl
   unreadable-stays (c ∷ w) = ap (λ (s : Word). wordAfter marks s w) (next-unreadable c) ∙ unreadable-stays w
 
-  mark-alone : (c : ℕ) (w : List ℕ) → wordAfter marks Missing (c ∷ w) ≡ Unreadable
+  mark-alone : (c : ℕ) (w : List ℕ) → wordAfter marks (Number missingMark) (c ∷ w) ≡ Unreadable
   unfolding wordAfter
   mark-alone c w = ap (λ (s : Word). wordAfter marks s w) (next-after-mark c) ∙ unreadable-stays w
 
@@ -130,12 +129,12 @@ module _ (marks : Bool) where
 
   -- ---- a whole word
 
-  mark-read : (c : ℕ) (w : List ℕ) → wordAfter marks (cond (eqb c hyphen && marks) Missing Unreadable) w ≡ cond (marks && isMark (c ∷ w)) Missing Unreadable
+  mark-read : (c : ℕ) (w : List ℕ) → wordAfter marks (cond (eqb c hyphen && marks) (Number missingMark) Unreadable) w ≡ cond (marks && isMark (c ∷ w)) (Number missingMark) Unreadable
   unfolding wordAfter isMark
   mark-read c [] = rw (and-comm (eqb c hyphen) marks)
   mark-read c (d ∷ w) = rw (and-false marks) (by (eqb c hyphen && marks))
     where
-      by : (t : Bool) → wordAfter marks (cond t Missing Unreadable) (d ∷ w) ≡ Unreadable
+      by : (t : Bool) → wordAfter marks (cond t (Number missingMark) Unreadable) (d ∷ w) ≡ Unreadable
       by true = mark-alone d w
       by false = unreadable-stays (d ∷ w)
 
@@ -144,7 +143,7 @@ module _ (marks : Bool) where
   word-read c w = by (isDigit c) refl
     where
       by : (t : Bool) → isDigit c ≡ t
-          → wordAfter marks (cond t (numberWith 0 (c - 48)) (cond (eqb c hyphen && marks) Missing Unreadable)) w
+          → wordAfter marks (cond t (numberWith 0 (c - 48)) (cond (eqb c hyphen && marks) (Number missingMark) Unreadable)) w
           ≡ judgedWord (t && every isDigit w && leb (valueFrom (10 * 0 + (c - 48)) w) 65535) (marks && isMark (c ∷ w)) (valueFrom (10 * 0 + (c - 48)) w)
       by true e = rw (digit-no-mark c w e, and-false marks) (digit-read 0 (c - 48) w (number-read w (10 * 0 + (c - 48))))
       by false e = mark-read c w

@@ -6,8 +6,7 @@ use Prim.Native.Nat.{ℕ, min}
 use lib.ListN.{length, take}
 use Rattle.lists.specs.Lists.{every}
 use Rattle.reader_laws.specs.Input.{words, isWord, valuesOf}
-use Rattle.reader.specs.Reader.{fresh, isRead, lineEnd, endTones}
-use Rattle.reader_laws.specs.Read.{readLine, readTones}
+use Rattle.reader.specs.Reader.{fresh, isRead, lineEnd, endTones, readLine, readTones}
 
 -- reading a line byte by byte gives what is defined of the whole line: whether it holds words alone, their count up to 255, and their values
 pub record Reading : Type 0 where

@@ -1,14 +1,18 @@
 -- Texts put at the front of an output, one after another.
 use mathlib.Core.Path.{_≡_, refl, sym, _∙_, ap, subst}
+use mathlib.Core.Bool.{Bool, true, false, cond}
 use mathlib.Core.List.{List, [], _∷_, _++_, append-nil}
 use Prim.Native.Nat.{ℕ, _+_, _-_, _<_, _≤_}
 use native.Mathlib.Omega.{arith}
+use borrow.Author.Tests.{le-leb, lt-leb}
+use lib.Dec.{leb}
 use lib.ListN.{length, take, drop, set, length-append, length-drop, drop-of-length-le}
 use borrow.Rule.Slice.PartAt.{part-to-end}
 use Rattle.lists.specs.Lists.{over}
 use Rattle.lists.proofs.Fronts.{over-none, over-one, over-after, over-length}
 use Rattle.text.specs.Written.{written}
 use Rattle.text.proofs.Writing.{written-whole}
+use Rattle.report.specs.Output.{fitting}
 
 -- what a function that puts a text answers and leaves
 abbrev pub Put : List ℕ → List ℕ → ℕ → List ℕ → Type 0
@@ -24,6 +28,27 @@ put-as out {n} {after} e put = subst (λ (x : List ℕ). Put x out n after) (sym
 -- a text that fits is put whole
 pub put-whole : (text out : List ℕ) {n : ℕ} {after : List ℕ} → length text ≤ length out → Put (written text (length out)) out n after → Put text out n after
 put-whole text out h put = put-as out (sym (written-whole text (length out) h)) put
+
+-- nothing is put where the room is short
+pub put-short : (text out : List ℕ) → length out < 1024 → Put (fitting text (length out)) out 0 out
+unfolding fitting
+put-short text out h = rw (lt-leb 1024 (length out) h) (put-none out)
+
+pub put-nothing : (out : List ℕ) → Put (fitting [] (length out)) out 0 out
+unfolding fitting
+put-nothing out = by (leb 1024 (length out))
+  where
+    by : (t : Bool) → Put (cond t [] []) out 0 out
+    by true = put-none out
+    by false = put-none out
+
+pub put-fitting : (text out : List ℕ) {n : ℕ} {after : List ℕ} → 1024 ≤ length out → Put text out n after → Put (fitting text (length out)) out n after
+unfolding fitting
+put-fitting text out h put = rw (le-leb 1024 (length out) h) put
+
+pub put-roomy : (text out : List ℕ) {n : ℕ} {after : List ℕ} → 1024 ≤ length out → Put (fitting text (length out)) out n after → Put text out n after
+unfolding fitting
+put-roomy text out h put = rw (le-leb 1024 (length out) h) at put
 
 -- one byte after a text
 pub put-byte : (text : List ℕ) (c : ℕ) (out : List ℕ) {n : ℕ} {x : List ℕ} → n < length out → Put text out n x → Put (text ++ (c ∷ [])) out (n + 1) (set x n c)

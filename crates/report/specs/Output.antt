@@ -2,7 +2,7 @@
 use mathlib.Core.Bool.{cond}
 use mathlib.Core.List.{List, [], _∷_, _++_}
 use Prim.Native.Nat.{ℕ, zero, suc, min}
-use lib.Dec.{eqb}
+use lib.Dec.{leb, eqb}
 use lib.ListN.{getD}
 use Rattle.text.specs.Ascii.{ascii, lineFeed, space}
 use Rattle.text.specs.Decimal.{decimal}
@@ -58,3 +58,7 @@ answerText block (Refused r) characters = refusalText block r
 -- the lines of a block that was heard
 unfoldable pub blockText : ℕ → BlockDecoded → List ℕ
 blockText block d = answerText block (d .answer) (d .characters)
+
+-- what is put of a text into an output of room bytes: the text, or nothing if they are less than 1,024
+unfoldable pub fitting : List ℕ → ℕ → List ℕ
+fitting text room = cond (leb 1024 room) text []

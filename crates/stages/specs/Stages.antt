@@ -4,7 +4,7 @@ use mathlib.Core.List.{List, []}
 use Prim.Native.Nat.{ℕ}
 use lib.ListN.{length}
 use Rattle.reader.specs.Reader.{fresh}
-use Rattle.report.specs.Output.{unreadableText, endText}
+use Rattle.report.specs.Output.{unreadableText, endText, fitting}
 use Rattle.stages.specs.declared.Stage.{Stage}
 use Rattle.stages.specs.declared.Stage.the-variants.{Settings, Blocks, Stopped}
 use Rattle.stages.specs.declared.Listing.{Listing}
@@ -19,15 +19,23 @@ pub record Said : Type 0 where
 abbrev pub told : Said → Progress
 told s = record { listing = s .next; written = length (s .text) }
 
+-- and by a function whose output has room bytes
+abbrev pub toldIn : ℕ → Said → Progress
+toldIn room s = record { listing = s .next; written = length (fitting (s .text) room) }
+
+-- nothing of a line is read
+abbrev pub beforeLine : Stage → ℕ → ℕ → ℕ → Listing
+beforeLine stage b m k = record { stage = stage; mode = b; «least_lead» = m; blocks = k; line = fresh }
+
 abbrev pub begun : Listing
-begun = record { stage = Settings; mode = 0; «least_lead» = 0; blocks = 0; line = fresh }
+begun = beforeLine Settings 0 0 0
 
 -- before the line of block k
 abbrev pub hearing : ℕ → ℕ → ℕ → Listing
-hearing b m k = record { stage = Blocks; mode = b; «least_lead» = m; blocks = k; line = fresh }
+hearing b m k = beforeLine Blocks b m k
 
 abbrev pub stopped : Listing
-stopped = record { stage = Stopped; mode = 0; «least_lead» = 0; blocks = 0; line = fresh }
+stopped = beforeLine Stopped 0 0 0
 
 abbrev pub isStopped : Stage → Bool
 isStopped Settings = false

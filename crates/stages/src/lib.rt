@@ -1,12 +1,11 @@
 // The stages of a listing: its state, and what is printed at its beginning and at its end. Document 01, "The listing program".
 use reader::Line;
 use reader::Word;
-use report::ROOM;
 ghost use mathlib.Core.Path.{_≡_};
 ghost use lib.ListN.{length};
 ghost use Rattle.lists.specs.Lists.{over};
-ghost use Rattle.report.specs.Output.{heading};
-ghost use Rattle.stages.specs.Stages.{told, begun, isStopped, endingText};
+ghost use Rattle.report.specs.Output.{heading, fitting};
+ghost use Rattle.stages.specs.Stages.{told, beforeLine, begun, stopped, isStopped, endingText};
 
 // What is read: the line of mode and set lead, the lines of blocks, or nothing more.
 pub enum Stage {
@@ -24,45 +23,39 @@ pub struct Listing {
     pub line: Line,
 }
 
-// The state after a byte, and how many bytes of text were written to the output's front.
+// The bytes of the input that are heard at once.
+pub const PIECE: usize = 4096;
+
+// The room for all that a piece can give. A line of a block has 128 bytes at least and gives 1,024 at most, so eight for each byte of
+// the piece; and as many for the line before it, of which 511 bytes count at most, and for the text that stops the listing.
+pub const OUTPUT: usize = 40960;
+
+// The state after a piece, and how many bytes of text were written to the output's front.
 pub struct Progress {
     pub listing: Listing,
     pub written: usize,
 }
 
 // The listing before the first byte, and the heading.
-pub fn begin(out: &mut [u8; ROOM]) -> Progress
+pub fn begin(out: &mut [u8; OUTPUT]) -> Progress
     ensures answer { λ r. ⌜ r ≡ told (record { text = heading; next = begun }) ⌝ }
     ensures output { λ _. ⌜ now (out .exit) ≡ over heading (now (out .entry)) ⌝ }
 {
     let written = put_heading(out);
-    let line = Line {
-        word: Word::Empty,
-        count: 0,
-    };
-    Progress {
-        listing: Listing {
-            stage: Stage::Settings,
-            mode: 0,
-            least_lead: 0,
-            blocks: 0,
-            line,
-        },
-        written,
-    }
+    before_line(Stage::Settings, 0, 0, 0, written)
 }
 
-fn put_heading(out: &mut [u8; ROOM]) -> usize
+fn put_heading(out: &mut [u8; OUTPUT]) -> usize
     ensures answer { λ r. ⌜ r ≡ length heading ⌝ }
     ensures output { λ _. ⌜ now (out .exit) ≡ over heading (now (out .entry)) ⌝ }
 {
     text::put_text(b"BLOCK CHAR CODE LEAD\n", out)
 }
 
-// The text after the last line.
-pub fn finish(listing: Listing, out: &mut [u8; ROOM]) -> usize
-    ensures answer { λ r. ⌜ r ≡ length (endingText (listing .stage) (listing .blocks)) ⌝ }
-    ensures output { λ _. ⌜ now (out .exit) ≡ over (endingText (listing .stage) (listing .blocks)) (now (out .entry)) ⌝ }
+// The text after the last line, if the output has room for any text.
+pub fn finish(listing: Listing, out: &mut [u8]) -> usize
+    ensures answer { λ r. ⌜ r ≡ length (fitting (endingText (listing .stage) (listing .blocks)) (length (now (out .entry)))) ⌝ }
+    ensures output { λ _. ⌜ now (out .exit) ≡ over (fitting (endingText (listing .stage) (listing .blocks)) (length (now (out .entry)))) (now (out .entry)) ⌝ }
 {
     let stage = listing.stage;
     match stage {
@@ -81,5 +74,32 @@ pub fn is_stopped(listing: Listing) -> bool
         Stage::Settings => false,
         Stage::Blocks => false,
         Stage::Stopped => true,
+    }
+}
+
+// Nothing more is read.
+pub fn stopped(written: usize) -> Progress
+    ensures { λ r. ⌜ r ≡ record { listing = stopped; written = written } ⌝ }
+{
+    before_line(Stage::Stopped, 0, 0, 0, written)
+}
+
+// The state before a line.
+pub fn before_line(stage: Stage, mode: u32, least_lead: u32, blocks: u64, written: usize) -> Progress
+    ensures { λ r. ⌜ r ≡ record { listing = beforeLine stage mode «least_lead» blocks; written = written } ⌝ }
+{
+    let line = Line {
+        word: Word::Empty,
+        count: 0,
+    };
+    Progress {
+        listing: Listing {
+            stage,
+            mode,
+            least_lead,
+            blocks,
+            line,
+        },
+        written,
     }
 }

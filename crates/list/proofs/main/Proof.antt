@@ -4,16 +4,16 @@ use Rattle.list.proofs.main.Statement.{statement}
 use Rattle.list.proofs.main.Tie as tie
 
 abbrev Inv-loop : tie.InvT-loop
-Inv-loop tones₀ out₀ now₀ goes-on₀ turns₀ tones out now goes-on turns = Unit {0}
+Inv-loop piece₀ tones₀ out₀ told₀ turns₀ piece tones out told turns = Unit {0}
 
 abbrev μ-loop : tie.MeasureT-loop
-μ-loop tones₀ out₀ now₀ goes-on₀ turns₀ tones out now goes-on turns = turns
+μ-loop piece₀ tones₀ out₀ told₀ turns₀ piece tones out told turns = turns
 
 begin-requires : tie.Need-begin-requires Inv-loop μ-loop
 begin-requires c κs = search needs
 
 loop-holds : tie.Need-loop-holds Inv-loop μ-loop
-loop-holds c = tt
+loop-holds c = search needs
 
 hear-requires : tie.Need-hear-requires Inv-loop μ-loop
 hear-requires c κs = search needs
@@ -25,7 +25,7 @@ loop-less : tie.Need-loop-less Inv-loop μ-loop
 loop-less c = omega arith
 
 loop-again : tie.Need-loop-again Inv-loop μ-loop
-loop-again c = tt
+loop-again c = search needs
 
 returns : tie.Need-returns Inv-loop μ-loop
 returns c = search needs

@@ -1,21 +1,15 @@
 use borrow.Author.Needs.{needs}
-use mathlib.Core.Path.{_∙_, sym, ap}
-use Prim.Native.Nat.{ℕ}
-use lib.ListN.{set}
-use Rattle.reader.specs.declared.Word.the-variants.{Empty}
-use borrow.Author.Tests.{not-true, not-false}
-use Rattle.reader.proofs.ReaderCases.{whole-ends, other-ends}
+use mathlib.Core.Path.{refl, sym}
+use native.Mathlib.Omega.{arith}
+use Rattle.reader.proofs.ReaderCases.{word-empty, word-unreadable, number-ends, no-number-ends}
 use Rattle.reader.proofs.end_word.Statement.{statement}
 use Rattle.reader.proofs.end_word.Tie as tie
 
-is-whole-requires : tie.Need-is-whole-requires
-is-whole-requires c κs = search needs
-
 returns : tie.Need-returns
-returns c = let e = other-ends _ _ (sym (c .before .is-whole .ensures) ∙ not-true _ (c .if1 .taken)) in (sym (e .0), sym (e .1))
-
-tone-in-requires : tie.Need-tone-in-requires
-tone-in-requires c κs = search needs
+returns c =
+    let a = c .before .args in
+    let e = no-number-ends (a .reading .word) (a .reading .count) (a .tones .now) (c .if1 .taken) in
+    (rw (word-unreadable 65537 (omega arith)) (sym (e .0)), (c .before .pre, sym (e .1)))
 
 cast-tones : tie.Need-cast-tones
 cast-tones c = search needs
@@ -31,20 +25,11 @@ counted-requires c κs = search needs
 
 returns-2 : tie.Need-returns-2
 returns-2 c =
-    let w = c .before .before in
-    let a = w .before .before .args in
-    let e = whole-ends _ _ (sym (w .before .is-whole .ensures) ∙ not-false _ (w .if1 .left)) in
-    (ap (λ (n : ℕ). record { word = Empty; count = n }) (c .counted .ensures) ∙ sym (e .0), ap (λ (x : ℕ). set (a .tones .now) (a .line .count) x) (c .before .tone-in .ensures) ∙ sym (e .1))
+    let a = c .before .before .args in
+    let e = number-ends (a .reading .word) (a .reading .count) (a .tones .now) (c .before .if1 .left) in
+    (rw (word-empty 65536 refl, c .counted .ensures) (sym (e .0)), (omega (arith, c .counted .ensures), sym (e .1)))
 
 pub end-word-spec : {M : Type 1} → statement M
 end-word-spec =
     tie.close
-    (tie.spec
-    is-whole-requires
-    returns
-    tone-in-requires
-    cast-tones
-    mul-tones
-    element-write-tones
-    counted-requires
-    returns-2)
+    (tie.spec returns cast-tones mul-tones element-write-tones counted-requires returns-2)

@@ -1,6 +1,5 @@
 use borrow.Author.Needs.{needs}
-use mathlib.Core.Path.{refl}
-use Rattle.lists.proofs.Fronts.{over-none}
+use Rattle.report.proofs.Puts.{put-nothing}
 use Rattle.stages.specs.Stages.{endingText}
 use Rattle.stages.proofs.finish.Statement.{statement}
 use Rattle.stages.proofs.finish.Tie as tie
@@ -20,17 +19,23 @@ put-end-requires c κs = search needs
 enum-told-3 : tie.Need-enum-told-3
 enum-told-3 c = search needs
 
+same-length : tie.Need-same-length
+same-length c = search needs
+
 returns : tie.Need-returns
 unfolding endingText
-returns c = rw (c .before .before .enum-told .given .1) (c .put-unreadable .ensures)
+returns c = let p = c .before .before in rw (p .before .before .enum-told .given .1) (p .put-unreadable .ensures)
+
+same-length-2 : tie.Need-same-length-2
+same-length-2 c = search needs
 
 returns-2 : tie.Need-returns-2
 unfolding endingText
-returns-2 c = rw (c .before .before .enum-told2 .given .1) (c .put-end .ensures)
+returns-2 c = let p = c .before .before in rw (p .before .before .enum-told2 .given .1) (p .put-end .ensures)
 
 returns-3 : tie.Need-returns-3
 unfolding endingText
-returns-3 c = rw (c .enum-told3 .given .1) (refl, over-none (c .before .before .args .out .now))
+returns-3 c = rw (c .enum-told3 .given .1) (put-nothing (c .before .before .before .args .out .now))
 
 pub finish-spec : {M : Type 1} → statement M
 finish-spec =
@@ -41,6 +46,8 @@ finish-spec =
     enum-told-2
     put-end-requires
     enum-told-3
+    same-length
     returns
+    same-length-2
     returns-2
     returns-3)
