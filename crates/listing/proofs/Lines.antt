@@ -7,16 +7,27 @@ use native.Mathlib.Omega.{arith}
 use lib.Dec.{eqb}
 use lib.ListN.{length, drop}
 use Rattle.text.specs.Ascii.{lineFeed}
-use Rattle.reader.specs.Reader.{nextTones, readLine, readTones, beforeFeed, endTones}
+use Rattle.reader.specs.declared.Stretch.{Stretch}
+use Rattle.reader.specs.Reader.{nextTones, readLine, readTones, beforeFeed, stretch, endTones}
 use Rattle.stages.specs.declared.Listing.{Listing}
 use Rattle.stages.specs.Stages.{Said}
 use Rattle.judge.specs.Judged.{closed}
-use Rattle.listing.specs.Steps.{withinLine, stepped, steppedTones, andThen, pieceSaid, pieceTones}
-use Rattle.listing.specs.Internal.{lineRead, tonesRead}
+use Rattle.listing.specs.Steps.{takesMarks, withinLine, stepped, steppedTones, andThen, pieceSaid, pieceTones}
+use Rattle.listing.specs.Internal.{lineRead, tonesRead, readFrom}
+use Rattle.listing.specs.declared.Within.{Within}
 
 pub then-then : (a b : List ℕ) (said : Said) → andThen a (andThen b said) ≡ andThen (a ++ b) said
 unfolding andThen
 then-then a b said = λ i. record { text = sym (append-assoc a b (said .text)) i; next = said .next }
+
+-- a line as far as it was read
+pub read-as : (s : Listing) (bytes : List ℕ) (from : ℕ) {x : Stretch} → x ≡ stretch (takesMarks (s .stage)) (s .line) bytes from
+    → _≡_ {A = Within}
+    (record { listing = record { stage = s .stage; mode = s .mode; «least_lead» = s .«least_lead»; blocks = s .blocks; line = x .line }; at = x .at })
+    (readFrom s bytes from)
+unfolding readFrom lineRead stretch
+read-as s bytes from e =
+    λ i. record { listing = record { stage = s .stage; mode = s .mode; «least_lead» = s .«least_lead»; blocks = s .blocks; line = e i .line }; at = e i .at }
 
 -- what a line makes of a listing
 module _ (s : Listing) (tones line : List ℕ) where

@@ -85,7 +85,13 @@ pub fn stopped(written: usize) -> Progress
 }
 
 // The state before a line.
-pub fn before_line(stage: Stage, mode: u32, least_lead: u32, blocks: u64, written: usize) -> Progress
+pub fn before_line(
+    stage: Stage,
+    mode: u32,
+    least_lead: u32,
+    blocks: u64,
+    written: usize,
+) -> Progress
     ensures { λ r. ⌜ r ≡ record { listing = beforeLine stage mode «least_lead» blocks; written = written } ⌝ }
 {
     let line = Line {

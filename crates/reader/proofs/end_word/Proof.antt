@@ -1,6 +1,7 @@
 use borrow.Author.Needs.{needs}
-use mathlib.Core.Path.{refl, sym}
+use mathlib.Core.Path.{refl, sym, ap, _∙_}
 use native.Mathlib.Omega.{arith}
+use Rattle.reader.specs.declared.Word.{Word}
 use Rattle.reader.proofs.ReaderCases.{word-empty, word-unreadable, number-ends, no-number-ends}
 use Rattle.reader.proofs.end_word.Statement.{statement}
 use Rattle.reader.proofs.end_word.Tie as tie
@@ -9,7 +10,7 @@ returns : tie.Need-returns
 returns c =
     let a = c .before .args in
     let e = no-number-ends (a .reading .word) (a .reading .count) (a .tones .now) (c .if1 .taken) in
-    (rw (word-unreadable 65537 (omega arith)) (sym (e .0)), (c .before .pre, sym (e .1)))
+    (ap (λ (w : Word). record { word = w; count = a .reading .count }) (word-unreadable 65537 (omega arith)) ∙ sym (e .0), (c .before .pre, sym (e .1)))
 
 cast-tones : tie.Need-cast-tones
 cast-tones c = search needs
