@@ -1,30 +1,51 @@
-//! Runs every group of tests, one line or more for each, and stops with status 1 at the first difference.
+//! Runs every group of tests, one line or more for each, and stops with status 1 at the first difference. With the argument
+//! `listing` it prints instead what document 01 says of the feed on standard input.
 
 mod groups;
 
-use groups::{cases, compare, demand3, sheet, vectors, words, Report};
+use groups::{cases, compare, demand3, listing, sheet, vectors, words, Report};
+use olivia_tests::paper;
+use std::io::{self, Read, Write};
 use std::process::ExitCode;
 
 type Group = (&'static str, fn() -> Report);
 
-const GROUPS: [Group; 6] = [
+const GROUPS: [Group; 7] = [
     ("vectors", vectors::run),
     ("words", words::run),
     ("sheet", sheet::run),
     ("cases", cases::run),
     ("compare", compare::run),
     ("demand3", demand3::run),
+    ("listing", listing::run),
 ];
 
 fn main() -> ExitCode {
-    for (name, run) in GROUPS {
-        match run() {
-            Ok(lines) => println!("{name}: {lines}"),
-            Err(difference) => {
-                eprintln!("{name}: {difference}");
-                return ExitCode::FAILURE;
-            }
+    let arguments: Vec<_> = std::env::args_os().skip(1).collect();
+    let done = match &arguments[..] {
+        [] => run_groups(),
+        [command] if command == "listing" => list().map_err(|error| error.to_string()),
+        _ => Err("usage: olivia_tests [listing]".into()),
+    };
+    match done {
+        Ok(()) => ExitCode::SUCCESS,
+        Err(reason) => {
+            eprintln!("{reason}");
+            ExitCode::FAILURE
         }
     }
-    ExitCode::SUCCESS
+}
+
+fn run_groups() -> Result<(), String> {
+    for (name, run) in GROUPS {
+        let lines = run().map_err(|difference| format!("{name}: {difference}"))?;
+        println!("{name}: {lines}");
+    }
+    Ok(())
+}
+
+fn list() -> io::Result<()> {
+    let mut input = vec![];
+    io::stdin().read_to_end(&mut input)?;
+    io::stdout().write_all(&paper::listed(&input))
 }

@@ -5,6 +5,7 @@ pub mod compare;
 mod damage;
 pub mod demand3;
 mod lent;
+pub mod listing;
 pub mod sheet;
 pub mod vectors;
 pub mod words;

@@ -1,4 +1,5 @@
-//! Document 01 ("Olivia text link: from characters to tones and back") written down a second time, to hold the library against.
+//! Document 01 ("Olivia text link: from characters to tones and back") written down a second time, to hold the library and the
+//! listing program against.
 //!
 //! Each function quotes the rule that it is. Nothing here is fast or shared with the library: a correlation is a sum over 64
 //! places, and the symbol of a tone is searched for. A function hands back what an entry has to write; `room` is the length of the
@@ -7,6 +8,7 @@
 mod demand;
 mod frequencies;
 mod hearing;
+mod listing;
 mod messages;
 mod refusals;
 mod sending;
@@ -14,10 +16,12 @@ mod sending;
 pub use demand::{trial, Trial};
 pub use frequencies::frequency;
 pub use hearing::{decode_block, symbol_of, Heard};
+pub use listing::listed;
 pub use messages::{decode_message, encode_message};
 pub use refusals::Refusal;
 pub use sending::{
-    block_tones, code_bit, encode_block, key_bit, place_in_symbol, reference_word, tone_of,
+    block_symbols, block_tones, code_bit, encode_block, key_bit, place_in_symbol, reference_word,
+    tone_of,
 };
 
 /// "A block is 64 symbols."

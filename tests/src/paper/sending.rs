@@ -54,14 +54,19 @@ pub fn tone_of(symbol: u16) -> u16 {
     symbol ^ (symbol >> 1)
 }
 
-/// The 64 tones of a block with these b codes.
-pub fn block_tones(b: usize, codes: &[u8]) -> Vec<u16> {
+/// The 64 symbols of a block with these b codes.
+pub fn block_symbols(b: usize, codes: &[u8]) -> Vec<u16> {
     let symbol_at = |t: usize| -> u16 {
         (0..b)
             .map(|q| (code_bit(codes[q], t) ^ key_bit(q, t)) << place_in_symbol(b, q, t))
             .sum()
     };
-    (0..SYMBOLS).map(|t| tone_of(symbol_at(t))).collect()
+    (0..SYMBOLS).map(symbol_at).collect()
+}
+
+/// The 64 tones of a block with these b codes.
+pub fn block_tones(b: usize, codes: &[u8]) -> Vec<u16> {
+    block_symbols(b, codes).into_iter().map(tone_of).collect()
 }
 
 /// "Checks when sending: 1, 5, 9, 6."

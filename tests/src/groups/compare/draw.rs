@@ -5,8 +5,8 @@ use super::tally::MODES;
 use olivia_tests::paper;
 use olivia_tests::random::Random;
 
-/// Which limits a case breaks. Half of the cases break none; in the others each is broken once in three times, so that several are
-/// broken at once.
+/// Which limits a case breaks.
+#[derive(Default)]
 pub struct Wrong {
     pub mode: bool,
     pub lead: bool,
@@ -16,6 +16,7 @@ pub struct Wrong {
 }
 
 impl Wrong {
+    /// Half of the cases break none; in the others each is broken once in three times, so that several are broken at once.
     pub fn draw(random: &mut Random) -> Self {
         let some = random.one_in(2);
         let mut wrong = || some && random.one_in(3);
@@ -71,11 +72,7 @@ pub fn wrong_length(random: &mut Random, right: usize) -> usize {
 }
 
 /// Puts one to three values from `wrong` to any places.
-pub fn spoil<T: Copy>(
-    random: &mut Random,
-    values: &mut [T],
-    mut wrong: impl FnMut(&mut Random) -> T,
-) {
+pub fn spoil<T>(random: &mut Random, values: &mut [T], mut wrong: impl FnMut(&mut Random) -> T) {
     if values.is_empty() {
         return;
     }

@@ -1,7 +1,7 @@
 //! The library against the paper on random inputs: whole answers, whole outputs with what lies around them, and inputs unchanged.
 
 mod block;
-mod draw;
+pub mod draw;
 mod frequency;
 mod message;
 mod tally;
