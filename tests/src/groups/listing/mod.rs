@@ -138,7 +138,7 @@ fn without_last_line(listing: &[u8]) -> &[u8] {
 }
 
 fn not_run(error: io::Error) -> String {
-    format!("target/bin/list: {error}")
+    format!("target/front/list: {error}")
 }
 
 /// The program printed this listing and this reason, and was not ended by a signal.

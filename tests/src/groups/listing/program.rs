@@ -8,7 +8,7 @@ use std::process::{ChildStdin, Command, Output, Stdio};
 use std::sync::atomic::{AtomicBool, Ordering};
 use std::thread;
 
-const PROGRAM: &str = concat!(env!("CARGO_MANIFEST_DIR"), "/../target/bin/list");
+const PROGRAM: &str = concat!(env!("CARGO_MANIFEST_DIR"), "/../target/front/list");
 
 /// How many bytes of a pipe are not read yet (Linux).
 const FIONREAD: c_ulong = 0x541B;
