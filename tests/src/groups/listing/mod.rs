@@ -8,8 +8,9 @@ use super::{expect_equal, Report};
 use olivia_tests::paper;
 use olivia_tests::random::Random;
 use std::path::Path;
-use std::process::Output;
-use std::{fs, io};
+use std::process::{self, Output};
+use std::time::Duration;
+use std::{fs, io, thread};
 use tally::Tally;
 
 const SEED: u64 = 4;
@@ -25,7 +26,15 @@ const NOISE: usize = 1000;
 /// Bytes that a pipe holds, at least (Linux).
 const PIPE: usize = 4096;
 
+/// The group takes some ten seconds: after so many the program is one that does not end.
+const LONGEST: Duration = Duration::from_secs(300);
+
 pub fn run() -> Report {
+    thread::spawn(|| {
+        thread::sleep(LONGEST);
+        eprintln!("listing: no end after {} s", LONGEST.as_secs());
+        process::exit(1);
+    });
     let mut random = Random::new(SEED);
     let parts = [
         stored_cases()?,
