@@ -8,9 +8,8 @@ use super::{expect_equal, Report};
 use olivia_tests::paper;
 use olivia_tests::random::Random;
 use std::path::Path;
-use std::process::{self, Output};
-use std::time::Duration;
-use std::{fs, io, thread};
+use std::process::Output;
+use std::{fs, io};
 use tally::Tally;
 
 const SEED: u64 = 4;
@@ -26,15 +25,7 @@ const NOISE: usize = 1000;
 /// Bytes that a pipe holds, at least (Linux).
 const PIPE: usize = 4096;
 
-/// The group takes some ten seconds: after so many the program is one that does not end.
-const LONGEST: Duration = Duration::from_secs(300);
-
 pub fn run() -> Report {
-    thread::spawn(|| {
-        thread::sleep(LONGEST);
-        eprintln!("listing: no end after {} s", LONGEST.as_secs());
-        process::exit(1);
-    });
     let mut random = Random::new(SEED);
     let parts = [
         stored_cases()?,
@@ -150,7 +141,7 @@ fn not_run(error: io::Error) -> String {
     format!("target/front/list: {error}")
 }
 
-/// The program printed this listing and this reason, and was not ended by a signal.
+/// The program printed this listing and this reason, and ended by itself.
 fn expect_printed(
     input: &[u8],
     output: &Output,
@@ -159,7 +150,7 @@ fn expect_printed(
 ) -> Result<(), String> {
     expect_text("standard output", listing, &output.stdout)
         .and_then(|()| expect_text("standard error", reason.as_bytes(), &output.stderr))
-        .and_then(|()| expect_equal("a status", true, output.status.code().is_some()))
+        .and_then(|()| expect_equal("status", Some(0), output.status.code()))
         .map_err(|difference| format!("input \"{}\": {difference}", input.escape_ascii()))
 }
 

@@ -10,6 +10,13 @@ use std::thread;
 
 const PROGRAM: &str = concat!(env!("CARGO_MANIFEST_DIR"), "/../target/front/list");
 
+/// The program, which is ended with status 124 if it takes a minute.
+fn limited() -> Command {
+    let mut command = Command::new("timeout");
+    command.args(["60", PROGRAM]);
+    command
+}
+
 /// How many bytes of a pipe are not read yet (Linux).
 const FIONREAD: c_ulong = 0x541B;
 
@@ -33,7 +40,7 @@ pub fn reset_after(sent: &[u8]) -> io::Result<Output> {
     (&program).write_all(b"unread")?;
     (&board).write_all(sent)?;
     drop(board);
-    Command::new(PROGRAM).stdin(OwnedFd::from(program)).output()
+    limited().stdin(OwnedFd::from(program)).output()
 }
 
 /// Runs the program with a pipe as output that nobody reads before its end, and whose writes do not wait.
@@ -46,7 +53,7 @@ pub fn into_full_pipe(input: &[u8]) -> io::Result<Output> {
 }
 
 fn run(stdout: Stdio, pieces: &[&[u8]]) -> io::Result<(Output, usize)> {
-    let mut program = Command::new(PROGRAM)
+    let mut program = limited()
         .stdin(Stdio::piped())
         .stdout(stdout)
         .stderr(Stdio::piped())
