@@ -5,7 +5,7 @@ use Rattle.lists.specs.Lists.{tab, over}
 use Rattle.lists.specs.Sums.{total, sum}
 use Rattle.lists.specs.Places.{scan}
 use Rattle.walsh.specs.Words.{minus, corr}
-use Rattle.decision.specs.Decision.{better, best, rival, leadOf, decisionFor, decision}
+use Rattle.decision.specs.Decision.{better, best, other, runnerUp, decisionFor, decision}
 use Rattle.chain.specs.Chain.{codeBit, keyBit, sentBit, weightAt, symbolAt, gray, toneAt, tonesOf}
 use Rattle.chain.specs.Tables.{symbolOf}
 use Rattle.tone_range.specs.Range.{firstBadTone}
@@ -20,5 +20,5 @@ use Rattle.bench_sheet.specs.Sheet.{starred, Starred}
 use Rattle.bench_sheet.proofs.Tests.{each-holds}
 
 pub starred-law : Starred
-unfolding ones trailingZeros odd tab total sum minus corr better best rival leadOf decisionFor decision over scan codeBit keyBit sentBit weightAt symbolAt gray toneAt tonesOf firstBadCode encodeBlock sentInto encodedInto symbolOf heardSymbol countOf countIn symbolsOf characterAt charactersOf codesOf firstUnclear unlessUnclear padded firstBadTone decodeBlock replacedIn missingIn scaled fault edge512 spacing512 half512 tone512 hertzOf frequencyOf case-1 evens-to turned-to missing-to all-missing
+unfolding ones trailingZeros odd tab total sum minus corr better best other runnerUp decisionFor decision over scan codeBit keyBit sentBit weightAt symbolAt gray toneAt tonesOf firstBadCode encodeBlock sentInto encodedInto symbolOf heardSymbol countOf countIn symbolsOf characterAt charactersOf codesOf firstUnclear unlessUnclear padded firstBadTone decodeBlock replacedIn missingIn scaled fault edge512 spacing512 half512 tone512 hertzOf frequencyOf case-1 evens-to turned-to missing-to all-missing
 starred-law = record { each = each-holds starred tt }

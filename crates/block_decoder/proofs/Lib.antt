@@ -1,5 +1,4 @@
 pub mod TableCounts
-pub mod Decisions
 pub mod Characters
 pub mod Clarity
 pub mod DecodeCases

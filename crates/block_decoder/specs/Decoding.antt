@@ -47,8 +47,9 @@ charactersOf b tones = tab (characterAt b tones) b
 unfoldable pub codesOf : List Character → List ℕ
 codesOf characters = map (λ c. c .code) characters
 
+-- what stands where no character is decided
 abbrev pub none : Character
-none = record { code = 0; lead = 0 }
+none = record { code = 0; lead = 0; word = 0; correlation = pos 0; next = 0; «next_correlation» = pos 0 }
 
 abbrev pub leadIn : List Character → ℕ → ℕ
 leadIn characters q = getD characters q none .lead

@@ -1,31 +1,34 @@
--- What only private contracts need: what a symbol counts by the tables of key bits and weights, and what is found in an answer's array of
--- eight characters.
+-- What only private contracts need: the sign of what a symbol counts, by the tables of key bits and weights, and how often it counts; and
+-- what is found in an answer's array of eight characters.
 use mathlib.Core.Bool.{Bool, cond, not}
 use mathlib.Core.List.{List}
 use Prim.Native.Nat.{ℕ, _+_}
 use lib.Bits.{bitAnd}
 use lib.Dec.{ltb, eqb}
-use lib.IntN.{ℤ, pos}
 use lib.ListN.{getD}
 use Rattle.lists.specs.Lists.{num}
 use Rattle.lists.specs.Places.{first}
 use Rattle.refusal.specs.Refused.{unclearAt}
-use Rattle.walsh.specs.Words.{signed, turned}
+use Rattle.walsh.specs.Words.{turned}
 use Rattle.decision.specs.declared.Character.{Character}
 use Rattle.chain.specs.Chain.{missingMark, bit}
 use Rattle.block_decoder.specs.Decoding.{none, leadIn}
 use Rattle.block_decoder.specs.declared.Decoded.{Decoded}
 use Rattle.block_decoder.specs.declared.Decoded.the-variants.{Text, Refused}
 
--- ---- counts by tables
+-- ---- signs by tables, and weights
 
--- what a symbol counts for a character whose bit has this weight, after XOR with a key bit
-unfoldable pub countBy : Bool → ℕ → ℕ → ℤ
-countBy k weight symbol = cond (eqb symbol missingMark) (pos 0) (signed (turned k (not (eqb (bitAnd symbol weight) 0))) (pos 1))
+-- the sign of what a symbol counts for a character whose bit has this weight, after XOR with a key bit
+unfoldable pub signBy : Bool → ℕ → ℕ → Bool
+signBy k weight symbol = turned k (not (eqb (bitAnd symbol weight) 0))
 
--- what symbol t counts for character q
-unfoldable pub tableCount : List ℕ → List ℕ → List ℕ → ℕ → ℕ → ℤ
-tableCount keys weights symbols q t = countBy (bit (num keys t) q) (num weights (q + t)) (num symbols t)
+-- of symbol t for character q
+unfoldable pub tableSign : List ℕ → List ℕ → List ℕ → ℕ → ℕ → Bool
+tableSign keys weights symbols q t = signBy (bit (num keys t) q) (num weights (q + t)) (num symbols t)
+
+-- how often a symbol counts
+unfoldable pub heardWeight : ℕ → ℕ
+heardWeight symbol = cond (eqb symbol missingMark) 0 1
 
 -- ---- the first n characters of eight
 

@@ -11,13 +11,23 @@ ghost use Rattle.block_decoder.specs.Internal.{judgementIn};
 mod decode;
 mod interleaver;
 
+// What stands where no character is decided.
+pub const NONE: Character = Character {
+    code: 0,
+    lead: 0,
+    word: 0,
+    correlation: 0,
+    next: 0,
+    next_correlation: 0,
+};
+
 // The count of codes written, or the refusal.
 pub enum Decoded {
     Text(usize),
     Refused(Refusal),
 }
 
-// The answer, and the decisions on the mode's characters that it rests on; the rest of the eight are 0.
+// The answer, and the decisions on the mode's characters that it rests on, also where that is refusal 10; the rest of the eight are NONE.
 pub struct BlockDecoded {
     pub answer: Decoded,
     pub characters: [Character; 8],
@@ -71,7 +81,7 @@ fn refused(number: u8, place: usize) -> BlockDecoded
 {
     BlockDecoded {
         answer: Decoded::Refused(Refusal::at(number, place)),
-        characters: [Character { code: 0, lead: 0 }; 8],
+        characters: [NONE; 8],
     }
 }
 

@@ -13,10 +13,11 @@ use Rattle.walsh.specs.Words.{minus, signed, corr}
 use Rattle.decision.specs.Decision.{negative, codeOf, decision}
 use Rattle.damage.specs.Damage.{sent, damage}
 use Rattle.decision.specs.Laws.{Chosen}
+use Rattle.decision.specs.declared.Character.{Character}
 use Rattle.damage.specs.Laws.{Moved, Withstands, Damage}
 use Rattle.walsh.proofs.Signed.{abs-signed, signed-sub, signed-twice, sum-signed}
 use Rattle.walsh_laws.proofs.Orthogonal.{orthogonality}
-use Rattle.decision.proofs.Choice.{decision-law}
+use Rattle.decision.proofs.Choice.{decision-law, nearest, ahead}
 
 -- ---- a number y that is at most D away from M
 
@@ -76,32 +77,36 @@ module _ (N c : ℕ) (s : Bool) (h : ℕ → ℤ) where
   own-large : c < 64 → 64 * N ≤ natAbs (corr h c) + damage N c s h
   own-large hc = omega (arith, near-large (signed s (corr h c)) (64 * N) (damage N c s h) (moved hc .own), abs-signed s (corr h c))
 
-  module _ (m : ℕ) (hc : c < 64) (hm : 1 ≤ m) (w : ℕ) (choice : Chosen (corr h) (decision (corr h)) w) where
+  module _ (m : ℕ) (hc : c < 64) (hm : 1 ≤ m) (choice : Chosen (corr h) (decision (corr h))) where
+    abbrev d : Character
+    d = decision (corr h)
+
     -- the code is the sent one, if the word is and its magnitude with 64 * N exceeds the damage
-    code-kept : w ≡ c → 1 ≤ natAbs (corr h c) → damage N c s h < natAbs (corr h c) + 64 * N → decision (corr h) .code ≡ codeOf c s
+    code-kept : d .word ≡ c → 1 ≤ natAbs (corr h c) → damage N c s h < natAbs (corr h c) + 64 * N → d .code ≡ codeOf c s
     code-kept e p l =
         choice .code
-        ∙ ap₂ codeOf e (ap (λ (k : ℕ). negative (corr h k)) e ∙ sign-near s (corr h c) (64 * N) (damage N c s h) (moved hc .own) p l)
+        ∙ ap₂ codeOf e
+        (ap negative (choice .correlation) ∙ ap (λ (k : ℕ). negative (corr h k)) e ∙ sign-near s (corr h c) (64 * N) (damage N c s h) (moved hc .own) p l)
 
     withstands : Withstands N c s h m
     withstands =
+        let w = d .word in
         let large : 64 * N ≤ natAbs (corr h c) + damage N c s h = own-large hc in
-        let nearest = choice .attained in
+        let near : natAbs (corr h (d .next)) + d .lead ≡ natAbs (corr h w) = nearest choice in
+        let rival = choice .runner-up .among in
         record {
           decided = λ g.
-              let e : w ≡ c = equal w c (λ ne. omega (arith, moved hc .other w (choice .word) ne, choice .greatest c hc)) in
-              let own : natAbs (corr h w) ≡ natAbs (corr h c) = ap (λ (k : ℕ). natAbs (corr h k)) e in (
-                code-kept e (omega arith) (omega arith),
-                omega (arith, nearest .3, moved hc .other (nearest .0) (nearest .1) (λ f. nearest .2 (f ∙ sym e))),
-              );
-          no-other = λ g l.
-              let e : w ≡ c = equal w c (λ ne. omega (arith, moved hc .other w (choice .word) ne, choice .ahead c hc (λ f. ne (sym f)))) in
+              let e : w ≡ c = equal w c (λ ne. omega (arith, moved hc .other w (choice .winner .among) ne, choice .winner .greatest c hc)) in
               let own : natAbs (corr h w) ≡ natAbs (corr h c) = ap (λ (k : ℕ). natAbs (corr h k)) e in
-              code-kept e (omega (arith, nearest .3)) (omega (arith, nearest .3));
+              (code-kept e (omega arith) (omega arith), omega (arith, moved hc .other (d .next) (rival .0) (λ f. rival .1 (f ∙ sym e))));
+          no-other = λ g l.
+              let e : w ≡ c = equal w c (λ ne. omega (arith, moved hc .other w (choice .winner .among) ne, ahead choice c hc (λ f. ne (sym f)))) in
+              let own : natAbs (corr h w) ≡ natAbs (corr h c) = ap (λ (k : ℕ). natAbs (corr h k)) e in
+              code-kept e (omega arith) (omega arith);
         }
 
 pub damage-law : Damage
 damage-law = record {
   moved = moved;
-  withstands = λ N c s h m hc hm. let choice = decision-law .chosen (corr h) in withstands N c s h m hc hm (choice .0) (choice .1);
+  withstands = λ N c s h m hc hm. withstands N c s h m hc hm (decision-law .chosen (corr h));
 }

@@ -1,24 +1,60 @@
 -- What the decision means, and that the meaning leaves no second decision.
 use mathlib.Core.Path.{_≡_, refl, sym, _∙_, ap, subst}
-use mathlib.Core.Logic.{_⊎_, inl, inr, _≢_, ⊎-elim}
-use Prim.Native.Nat.{ℕ, zero, suc, _+_, _<_, _≤_, _%_, max}
-use native.Mathlib.Decide.{ℕ-discrete, decLe, decLt}
+use mathlib.Core.Logic.{_≢_, ⊎-elim}
+use Prim.Native.Nat.{ℕ, zero, suc, _+_, _-_, _<_, _≤_}
+use native.Mathlib.Decide.{decLt}
 use native.Mathlib.Nat.{eq-or-lt-of-le, le-of-suc-le-suc}
 use native.Mathlib.Omega.{arith}
 use lib.Dec.{ltb, ltb→lt, nltb→le}
 use lib.IntN.{ℤ, natAbs}
-use borrow.Author.Tests.{eq-eqb, ne-eqb}
 use Rattle.lists.proofs.Integers.{cond-cases}
-use Rattle.decision.specs.Decision.{better, best, rival, leadOf, negative, codeOf, decisionFor, decision}
-use Rattle.decision.specs.Laws.{Chosen, Decision}
+use Rattle.lists.proofs.Sums.{sum-ext}
+use Rattle.walsh.specs.Words.{minus, signed, corr}
+use Rattle.decision.specs.Decision.{better, best, other, runnerUp, negative, codeOf, decisionFor, decision}
+use Rattle.decision.specs.Laws.{Foremost, Chosen, Decision}
 use Rattle.decision.specs.declared.Character.{Character}
 
 -- what holds at each place below n, and at n, holds at each below suc n
 pub below-suc : (P : ℕ → Type 0) (n : ℕ) → ((k : ℕ) → k < n → P k) → P n → (k : ℕ) → k < suc n → P k
 below-suc P n h p k l = ⊎-elim (λ e. subst P (sym e) p) (h k) (eq-or-lt-of-le (le-of-suc-le-suc l))
 
-pub same-character : {c c′ l l′ : ℕ} → c ≡ c′ → l ≡ l′ → _≡_ {A = Character} (record { code = c; lead = l }) (record { code = c′; lead = l′ })
-same-character p q = λ i. record { code = p i; lead = q i }
+pub same-character : {c c′ l l′ w w′ v v′ : ℕ} {y y′ z z′ : ℤ} → c ≡ c′ → l ≡ l′ → w ≡ w′ → y ≡ y′ → v ≡ v′ → z ≡ z′
+    → _≡_ {A = Character}
+    (record { code = c; lead = l; word = w; correlation = y; next = v; «next_correlation» = z })
+    (record { code = c′; lead = l′; word = w′; correlation = y′; next = v′; «next_correlation» = z′ })
+same-character pc pl pw py pv pz =
+    λ i. record { code = pc i; lead = pl i; word = pw i; correlation = py i; next = pv i; «next_correlation» = pz i }
+
+-- ---- the words other than w
+
+module _ (w : ℕ) where
+  other-cases : (P : ℕ → Type 0) (k : ℕ) → (k < w → P k) → (w ≤ k → P (suc k)) → P (other w k)
+  unfolding other
+  other-cases P k f g = cond-cases P (ltb k w) k (suc k) (λ t. f (ltb→lt _ _ t)) (λ t. g (nltb→le _ _ t))
+
+  other-among : (k : ℕ) → k < 63 → (other w k < 64) × (other w k ≢ w)
+  other-among k l =
+      other-cases (λ v. (v < 64) × (v ≢ w)) k (λ a. (omega arith, λ e. omega arith)) (λ a. (omega arith, λ e. omega arith))
+
+  -- they keep their order
+  other-ordered : (j k : ℕ) → other w j < other w k → j < k
+  other-ordered j k =
+      other-cases (λ x. x < other w k → j < k) j
+      (λ a. other-cases (λ y. j < y → j < k) k (λ b l. l) (λ b l. omega arith))
+      (λ a. other-cases (λ y. suc j < y → j < k) k (λ b l. omega arith) (λ b l. omega arith))
+
+  -- what holds of each of them holds of every word below 64 but w
+  each-other : (P : ℕ → Type 0) → w < 64 → ((j : ℕ) → j < 63 → P (other w j)) → (k : ℕ) → (k < 64) × (k ≢ w) → P k
+  each-other P i h k (l, ne) = by (decLt k w)
+    where
+      by : Dec (k < w) → P k
+      by (yes a) =
+          let own : other w k ≡ k = other-cases (λ v. v ≡ k) k (λ b. refl) (λ b. absurd (omega arith)) in
+          subst P own (h k (omega arith))
+      by (no a) =
+          let above : w < k = omega (arith, ne) in
+          let own : other w (k - 1) ≡ k = other-cases (λ v. v ≡ k) (k - 1) (λ b. absurd (omega arith)) (λ b. omega arith) in
+          subst P own (h (k - 1) (omega arith))
 
 module _ (r : ℕ → ℤ) where
   -- ---- the better of two words, by which has the greater magnitude
@@ -29,149 +65,133 @@ module _ (r : ℕ → ℤ) where
 
   -- ---- the best word
 
-  pub record Best (n w : ℕ) : Type 0 where
-    pub inside : w < n
-    pub greatest : (k : ℕ) → k < n → natAbs (r k) ≤ natAbs (r w)
-    pub lowest : (k : ℕ) → k < w → natAbs (r k) < natAbs (r w)
-
-  first-best : Best 1 0
+  first-best : Foremost r (λ k. k < 1) 0
   first-best = record {
-    inside = omega arith;
+    among = omega arith;
     greatest = below-suc (λ k. natAbs (r k) ≤ natAbs (r 0)) 0 (λ k l. absurd (omega arith)) (omega arith);
-    lowest = λ k l. absurd (omega arith);
+    lowest = λ k l g. absurd (omega arith);
   }
 
-  next-best : (n b : ℕ) → Best n b → Best (suc n) (better r b n)
+  next-best : (n b : ℕ) → Foremost r (λ k. k < n) b → Foremost r (λ k. k < suc n) (better r b n)
   next-best n b h =
-      better-cases (Best (suc n)) b n
+      better-cases (Foremost r (λ k. k < suc n)) b n
       (λ g. record {
-        inside = omega arith;
+        among = omega arith;
         greatest = below-suc (λ k. natAbs (r k) ≤ natAbs (r n)) n (λ k l. omega (arith, h .greatest k l)) (omega arith);
-        lowest = λ k l. omega (arith, h .greatest k l);
+        lowest = λ k l a. omega (arith, h .greatest k a);
       })
       (λ g. record {
-        inside = omega arith;
+        among = omega (arith, h .among);
         greatest = below-suc (λ k. natAbs (r k) ≤ natAbs (r b)) n (h .greatest) g;
-        lowest = h .lowest;
+        lowest = λ k l a. h .lowest k (omega (arith, h .among)) a;
       })
 
-  pub best-is : (n : ℕ) → Best (suc n) (best r (suc n))
+  best-foremost : (n : ℕ) → Foremost r (λ k. k < suc n) (best r (suc n))
   unfolding best
-  best-is zero = better-cases (Best 1) 0 0 (λ g. first-best) (λ g. first-best)
-  best-is (suc n) = next-best (suc n) (best r (suc n)) (best-is n)
+  best-foremost zero = better-cases (Foremost r (λ k. k < 1)) 0 0 (λ g. first-best) (λ g. first-best)
+  best-foremost (suc n) = next-best (suc n) (best r (suc n)) (best-foremost n)
 
-  best-only : (w v : ℕ) → Best 64 w → Best 64 v → w ≡ v
-  best-only w v a b =
-      let wv : natAbs (r w) ≤ natAbs (r v) = b .greatest w (a .inside) in
-      let vw : natAbs (r v) ≤ natAbs (r w) = a .greatest v (b .inside) in
+  foremost-only : (Among : ℕ → Type 0) (w v : ℕ) → Foremost r Among w → Foremost r Among v → w ≡ v
+  foremost-only Among w v a b =
+      let wv : natAbs (r w) ≤ natAbs (r v) = b .greatest w (a .among) in
+      let vw : natAbs (r v) ≤ natAbs (r w) = a .greatest v (b .among) in
       by wv vw (decLt w v) (decLt v w)
     where
       by : natAbs (r w) ≤ natAbs (r v) → natAbs (r v) ≤ natAbs (r w) → Dec (w < v) → Dec (v < w) → w ≡ v
-      by wv vw (yes l) d = absurd (omega (arith, b .lowest w l))
-      by wv vw (no n) (yes l) = absurd (omega (arith, a .lowest v l))
+      by wv vw (yes l) d = absurd (omega (arith, b .lowest w (a .among) l))
+      by wv vw (no n) (yes l) = absurd (omega (arith, a .lowest v (b .among) l))
       by wv vw (no n) (no m) = omega arith
 
-  -- ---- the largest magnitude among the others
+-- ---- the decision
 
-  module _ (w : ℕ) where
-    rival-own : rival r w (suc w) ≡ rival r w w
-    unfolding rival
-    rival-own = simp (eq-eqb w w refl)
+module _ (r : ℕ → ℤ) where
+  abbrev pub Best : ℕ → Type 0
+  Best = Foremost r (λ k. k < 64)
 
-    pub rival-other : (n : ℕ) → n ≢ w → rival r w (suc n) ≡ max (rival r w n) (natAbs (r n))
-    unfolding rival
-    rival-other n ne = simp (ne-eqb n w ne)
+  abbrev pub Next : ℕ → ℕ → Type 0
+  Next w = Foremost r (λ k. (k < 64) × (k ≢ w))
 
-    rival-grows : (n : ℕ) → rival r w n ≤ rival r w (suc n)
-    rival-grows n = by (ℕ-discrete n w)
-      where
-        by : Dec (n ≡ w) → rival r w n ≤ rival r w (suc n)
-        by (yes e) = omega (arith, ap (λ k. rival r w (suc k)) e, ap (rival r w) e, rival-own)
-        by (no ne) = omega (arith, rival-other n ne)
+  pub best-is : Best (best r 64)
+  best-is = best-foremost r 63
 
-    rival-above : (n k : ℕ) → k < n → k ≢ w → natAbs (r k) ≤ rival r w n
-    rival-above zero k l ne = absurd (omega arith)
-    rival-above (suc n) k l ne =
-        below-suc (λ j. j ≢ w → natAbs (r j) ≤ rival r w (suc n)) n
-        (λ j g nj. omega (arith, rival-above n j g nj, rival-grows n))
-        (λ nn. omega (arith, rival-other n nn)) k l ne
+  -- the best of the others is the runner-up
+  next-among : (w v : ℕ) → w < 64 → Foremost (λ k. r (other w k)) (λ k. k < 63) v → Next w (other w v)
+  next-among w v i b = record {
+    among = other-among w v (b .among);
+    greatest = each-other w (λ k. natAbs (r k) ≤ natAbs (r (other w v))) i (b .greatest);
+    lowest = each-other w (λ k. k < other w v → natAbs (r k) < natAbs (r (other w v))) i (λ j l g. b .lowest j l (other-ordered w j v g));
+  }
 
-    -- v is 0, or the magnitude of another word below n
-    Found : ℕ → ℕ → Type 0
-    Found n v = (v ≡ 0) ⊎ ((k : ℕ) × (k < n) × (k ≢ w) × (natAbs (r k) ≡ v))
+  pub runner-up-is : (w : ℕ) → w < 64 → Next w (runnerUp r w)
+  unfolding runnerUp
+  runner-up-is w i = next-among w (best (λ k. r (other w k)) 63) i (best-foremost (λ k. r (other w k)) 62)
 
-    found-more : (n v : ℕ) → Found n v → Found (suc n) v
-    unfolding Found
-    found-more n v f = ⊎-elim inl (λ g. inr (g .0, omega (arith, g .1), g .2, g .3)) f
+  chosen-as : (w v : ℕ) → Best w → Next w v → Chosen r (decisionFor r w v)
+  unfolding decisionFor
+  chosen-as w v b n = record {
+    winner = b;
+    runner-up = n;
+    correlation = refl;
+    next-correlation = refl;
+    code = refl;
+    lead = omega (arith, b .greatest v (n .among .0));
+  }
 
-    rival-found : (n : ℕ) → Found n (rival r w n)
-    unfolding rival Found
-    rival-found zero = inl refl
-    rival-found (suc n) = by (found-more n (rival r w n) (rival-found n)) (ℕ-discrete n w) (decLe (rival r w n) (natAbs (r n)))
-      where
-        by : Found (suc n) (rival r w n) → Dec (n ≡ w) → Dec (rival r w n ≤ natAbs (r n)) → Found (suc n) (rival r w (suc n))
-        by f (yes e) d = subst (Found (suc n)) (simp (eq-eqb n w e)) f
-        by f (no ne) (yes l) = inr (n, omega arith, ne, omega (arith, rival-other n ne))
-        by f (no ne) (no g) = subst (Found (suc n)) (omega (arith, rival-other n ne)) f
+  chosen-for : (d : Character) → Chosen r d → d ≡ decisionFor r (d .word) (d .next)
+  unfolding decisionFor
+  chosen-for d h =
+      same-character
+      (h .code ∙ ap (λ (z : ℤ). codeOf (d .word) (negative z)) (h .correlation))
+      (omega (arith, h .lead, ap natAbs (h .correlation), ap natAbs (h .next-correlation)))
+      refl (h .correlation) refl (h .next-correlation)
 
-    pub rival-below : (n B : ℕ) → ((k : ℕ) → k < n → k ≢ w → natAbs (r k) ≤ B) → rival r w n ≤ B
-    unfolding Found
-    rival-below n B h = ⊎-elim (λ e. omega arith) (λ f. omega (arith, h (f .0) (f .1) (f .2), f .3)) (rival-found n)
-
-    -- of 64 words some other one has it
-    rival-attained : (k : ℕ) × (k < 64) × (k ≢ w) × (natAbs (r k) ≡ rival r w 64)
-    unfolding Found
-    rival-attained =
-        ⊎-elim
-        (λ e. ((w + 1) % 64, omega arith, (λ f. omega arith), omega (arith, rival-above 64 ((w + 1) % 64) (omega arith) (λ f. omega arith))))
-        (λ f. f) (rival-found 64)
-
-  -- ---- the decision
-
-  best-chosen : (w : ℕ) → Best 64 w → Chosen r (decisionFor r w) w
-  unfolding decisionFor leadOf
-  best-chosen w b =
-      let least : rival r w 64 ≤ natAbs (r w) = rival-below w 64 (natAbs (r w)) (λ k l ne. b .greatest k l) in
-      let a = rival-attained w in
-      record {
-        word = b .inside;
-        code = refl;
-        greatest = b .greatest;
-        lowest = b .lowest;
-        ahead = λ k l ne. omega (arith, rival-above w 64 k l ne);
-        attained = (a .0, a .1, a .2, omega (arith, a .3));
-      }
-
-  chosen-for : (d : Character) (w : ℕ) → Chosen r d w → d ≡ decisionFor r w
-  unfolding decisionFor leadOf
-  chosen-for d w h =
-      let a = h .attained in
-      same-character (h .code)
-      (omega (arith, a .3, rival-above w 64 (a .0) (a .1) (a .2), rival-below w 64 (natAbs (r (a .0))) (λ k l ne. omega (arith, h .ahead k l ne, a .3))))
+  -- a best word and its runner-up are those of the decision
+  pub decided : (w v : ℕ) → Best w → Next w v → decisionFor r w v ≡ decision r
+  unfolding decision
+  decided w v b n =
+      ap (decisionFor r w) (foremost-only r (λ k. (k < 64) × (k ≢ w)) v (runnerUp r w) n (runner-up-is w (b .among)))
+      ∙ ap (λ (k : ℕ). decisionFor r k (runnerUp r k)) (foremost-only r (λ k. k < 64) w (best r 64) b best-is)
 
 pub decision-law : Decision
 unfolding decision
 decision-law = record {
-  chosen = λ r. (best r 64, best-chosen r (best r 64) (best-is r 63));
-  only = λ r d w h.
-      chosen-for r d w h
-      ∙ ap (decisionFor r) (best-only r w (best r 64) (record { inside = h .word; greatest = h .greatest; lowest = h .lowest }) (best-is r 63));
+  chosen = λ r. chosen-as r (best r 64) (runnerUp r (best r 64)) (best-is r) (runner-up-is r (best r 64) (best-is r .among));
+  only = λ r d h. chosen-for r d h ∙ decided r (d .word) (d .next) (h .winner) (h .runner-up);
 }
 
--- the decision rests on the 64 correlations alone
+-- ---- the lead, by the correlations
+
+module _ {r : ℕ → ℤ} {d : Character} (h : Chosen r d) where
+  -- the runner-up is as near as the lead says
+  pub nearest : natAbs (r (d .next)) + d .lead ≡ natAbs (r (d .word))
+  nearest = omega (arith, h .lead, ap natAbs (h .correlation), ap natAbs (h .next-correlation))
+
+  -- and no other word is nearer
+  pub ahead : (k : ℕ) → k < 64 → k ≢ d .word → natAbs (r k) + d .lead ≤ natAbs (r (d .word))
+  ahead k l ne = omega (arith, nearest, h .runner-up .greatest k (l, ne))
+
+-- ---- the decision rests on the 64 correlations alone, and so on the 64 counts
+
+foremost-ext : (r s : ℕ → ℤ) (Among : ℕ → Type 0) → ((k : ℕ) → Among k → natAbs (r k) ≡ natAbs (s k)) → (w : ℕ) → Foremost r Among w → Foremost s Among w
+foremost-ext r s Among e w h = record {
+  among = h .among;
+  greatest = λ k p. omega (arith, h .greatest k p, e k p, e w (h .among));
+  lowest = λ k p l. omega (arith, h .lowest k p l, e k p, e w (h .among));
+}
+
 pub decision-ext : (r s : ℕ → ℤ) → ((k : ℕ) → k < 64 → r k ≡ s k) → decision r ≡ decision s
 decision-ext r s e =
-    let choice = decision-law .chosen r in
-    let w = choice .0 in
-    let h = choice .1 in
-    let a = h .attained in
-    let abs : (k : ℕ) → k < 64 → natAbs (r k) ≡ natAbs (s k) = λ k l. ap natAbs (e k l) in
-    let own : natAbs (r w) ≡ natAbs (s w) = abs w (h .word) in
-    decision-law .only s (decision r) w record {
-      word = h .word;
-      code = h .code ∙ ap (λ (z : ℤ). codeOf w (negative z)) (e w (h .word));
-      greatest = λ k l. omega (arith, h .greatest k l, abs k l);
-      lowest = λ k l. omega (arith, h .lowest k l, abs k (omega (arith, h .word)));
-      ahead = λ k l ne. omega (arith, h .ahead k l ne, abs k l);
-      attained = (a .0, a .1, a .2, omega (arith, a .3, abs (a .0) (a .1)));
+    let h = decision-law .chosen r in
+    decision-law .only s (decision r) record {
+      winner = foremost-ext r s _ (λ k l. ap natAbs (e k l)) _ (h .winner);
+      runner-up = foremost-ext r s _ (λ k p. ap natAbs (e k (p .0))) _ (h .runner-up);
+      correlation = h .correlation ∙ e _ (h .winner .among);
+      next-correlation = h .next-correlation ∙ e _ (h .runner-up .among .0);
+      code = h .code;
+      lead = h .lead;
     }
+
+pub counts-decide : (f g : ℕ → ℤ) → ((t : ℕ) → t < 64 → f t ≡ g t) → decision (corr f) ≡ decision (corr g)
+unfolding corr
+counts-decide f g e =
+    decision-ext (corr f) (corr g) (λ c h. sum-ext 64 (λ t. signed (minus c t) (f t)) (λ t. signed (minus c t) (g t)) (λ t l. ap (signed (minus c t)) (e t l)))

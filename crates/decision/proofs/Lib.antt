@@ -1,4 +1,4 @@
 pub mod Choice
 pub mod Parities
 pub mod Locals
-pub mod Passes
+pub mod KeyOrder

@@ -11,7 +11,7 @@ use Rattle.decision.specs.Decision.{decision}
 use Rattle.decision.specs.Laws.{Parity}
 use Rattle.walsh.proofs.Signed.{abs-signed}
 use Rattle.walsh.proofs.Signs.{odd-zero}
-use Rattle.decision.proofs.Choice.{decision-law}
+use Rattle.decision.proofs.Choice.{decision-law, nearest}
 
 corr-parity : (h : ℕ → ℤ) (c : ℕ) → natAbs (corr h c) % 2 ≡ natAbs (sum 64 h) % 2
 unfolding corr
@@ -24,7 +24,6 @@ pub parity : Parity
 parity = record {
   correlations = λ h c. ap (λ (n : ℕ). eqb n 1) (corr-parity h c);
   leads = λ h.
-      let choice = decision-law .chosen (corr h) in
-      let nearest = choice .1 .attained in
-      odd-zero (decision (corr h) .lead) (omega (arith, nearest .3, corr-parity h (nearest .0), corr-parity h (choice .0)));
+      let d = decision (corr h) in
+      odd-zero (d .lead) (omega (arith, nearest (decision-law .chosen (corr h)), corr-parity h (d .next), corr-parity h (d .word)));
 }

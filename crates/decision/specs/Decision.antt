@@ -1,7 +1,7 @@
--- The decision on one character from its 64 correlations r: document 01, "Hearing a block".
+-- The decision on one character from its 64 correlations r: document 01, "Hearing a block", and order 5.
 use mathlib.Core.Bool.{Bool, true, false, cond}
-use Prim.Native.Nat.{ℕ, zero, suc, _+_, _-_, max}
-use lib.Dec.{ltb, eqb}
+use Prim.Native.Nat.{ℕ, zero, suc, _+_, _-_}
+use lib.Dec.{ltb}
 use lib.IntN.{ℤ, pos, negsuc, natAbs}
 use Rattle.decision.specs.declared.Character.{Character}
 
@@ -14,14 +14,13 @@ unfoldable pub best : (ℕ → ℤ) → ℕ → ℕ
 best r zero = 0
 best r (suc n) = better r (best r n) n
 
--- the largest magnitude among the words below n other than w
-unfoldable pub rival : (ℕ → ℤ) → ℕ → ℕ → ℕ
-rival r w zero = 0
-rival r w (suc n) = cond (eqb n w) (rival r w n) (max (rival r w n) (natAbs (r n)))
+-- the words other than w, in their order
+unfoldable pub other : ℕ → ℕ → ℕ
+other w k = cond (ltb k w) k (suc k)
 
--- document 01's lead of word w: its magnitude minus the largest among the other 63 words
-unfoldable pub leadOf : (ℕ → ℤ) → ℕ → ℕ
-leadOf r w = natAbs (r w) - rival r w 64
+-- the best of the other 63
+unfoldable pub runnerUp : (ℕ → ℤ) → ℕ → ℕ
+runnerUp r w = other w (best (λ k. r (other w k)) 63)
 
 abbrev pub negative : ℤ → Bool
 negative (pos n) = false
@@ -31,10 +30,17 @@ negative (negsuc n) = true
 abbrev pub codeOf : ℕ → Bool → ℕ
 codeOf word turned = cond turned (word + 64) word
 
--- word w as the decision: turned if its correlation is negative
-unfoldable pub decisionFor : (ℕ → ℤ) → ℕ → Character
-decisionFor r w = record { code = codeOf w (negative (r w)); lead = leadOf r w }
+-- word w as the decision, turned if its correlation is negative, and word v as its runner-up; the lead is the difference of their magnitudes
+unfoldable pub decisionFor : (ℕ → ℤ) → ℕ → ℕ → Character
+decisionFor r w v = record {
+  code = codeOf w (negative (r w));
+  lead = natAbs (r w) - natAbs (r v);
+  word = w;
+  correlation = r w;
+  next = v;
+  «next_correlation» = r v;
+}
 
 -- the decision is for the best of the 64 words
 unfoldable pub decision : (ℕ → ℤ) → Character
-decision r = decisionFor r (best r 64)
+decision r = decisionFor r (best r 64) (runnerUp r (best r 64))

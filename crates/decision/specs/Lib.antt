@@ -1,3 +1,4 @@
+pub mod Counts
 pub mod Decision
 pub mod Laws
 pub mod Internal

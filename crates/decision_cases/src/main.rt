@@ -1,57 +1,78 @@
-// Runs the decision on every code as sent, and on document 01's cases 6 to 11 as the counts of one character.
+// Runs the decision on every code as sent, on document 01's cases 6 to 11 as the signs and weights of one character, on a winner and a
+// runner-up that are both negative, and on weights up to the largest byte, of which four bits count.
 use decision::Character;
 use libc::STDOUT_FILENO;
+use text::LINE_FEED;
+use text::SPACE;
 ghost use Prim.Native.Nat.{_≤_};
 
-// What word `code` counts at t when it is sent; codes from 64 up have every sign turned.
-fn count(code: u64, t: u64) -> i8 {
-    let minus = walsh::is_minus(code, t);
-    if code < 64 {
-        if minus { -1 } else { 1 }
-    } else {
-        if minus { 1 } else { -1 }
-    }
-}
-
-fn sent(code: u64) -> [i8; 64] {
-    let mut counts = [0i8; 64];
+// The signs of a code as it is sent; codes from 64 up have every sign turned.
+fn sent(code: u64) -> [bool; 64] {
+    let mut signs = [false; 64];
     for t in 0..64 {
-        counts[t] = count(code, t as u64);
+        signs[t] = walsh::is_minus(code, t as u64) != (64 <= code);
     }
-    counts
+    signs
 }
 
-// The counts of code 0 with each of the first `n` even places changed to `heard`.
-fn evens(n: usize, heard: i8) -> [i8; 64]
+// The same with each of the first `n` even places turned.
+fn turned(code: u64, n: usize) -> [bool; 64]
     requires { ⌜ n ≤ 32 ⌝ }
 {
-    let mut counts = sent(0);
+    let mut signs = sent(code);
     for k in 0..n {
-        counts[2 * k] = heard;
+        signs[2 * k] = !signs[2 * k];
     }
-    counts
+    signs
+}
+
+// Weights of 1, and 0 at each of the first `n` even places.
+fn missing(n: usize) -> [u8; 64]
+    requires { ⌜ n ≤ 32 ⌝ }
+{
+    let mut weights = [1u8; 64];
+    for k in 0..n {
+        weights[2 * k] = 0;
+    }
+    weights
+}
+
+fn print_number(n: u64) {
+    io::print_decimal(STDOUT_FILENO, n);
+    io::write_all(STDOUT_FILENO, b" ");
+}
+
+fn print_signed(n: i32, end: u8) {
+    let mut line = [0u8; 12];
+    let count = text::put_signed_field(n, end, &mut line);
+    io::write_all(STDOUT_FILENO, &line[..count]);
 }
 
 fn print(c: Character) {
-    io::print_decimal(STDOUT_FILENO, c.code as u64);
-    io::write_all(STDOUT_FILENO, b" ");
-    io::print_decimal(STDOUT_FILENO, c.lead as u64);
-    io::write_all(STDOUT_FILENO, b"\n");
+    print_number(c.code as u64);
+    print_number(c.lead as u64);
+    print_number(c.word as u64);
+    print_signed(c.correlation, SPACE);
+    print_number(c.next as u64);
+    print_signed(c.next_correlation, LINE_FEED);
 }
 
 fn print_every_code() {
     for code in 0..128 {
-        print(decision::decide(sent(code)));
+        print(decision::decide(sent(code), &[1; 64]));
     }
 }
 
 fn main() {
     print_every_code();
-    print(decision::decide(evens(15, -1)));
-    print(decision::decide(evens(16, -1)));
-    print(decision::decide(evens(31, 0)));
-    print(decision::decide(evens(32, 0)));
-    print(decision::decide(evens(32, -1)));
-    print(decision::decide([0i8; 64]));
-    print(decision::decide([-128i8; 64]));
+    print(decision::decide(turned(0, 15), &[1; 64]));
+    print(decision::decide(turned(0, 16), &[1; 64]));
+    print(decision::decide(sent(0), &missing(31)));
+    print(decision::decide(sent(0), &missing(32)));
+    print(decision::decide(turned(0, 32), &[1; 64]));
+    print(decision::decide(sent(0), &[0; 64]));
+    print(decision::decide(turned(64, 15), &[1; 64]));
+    print(decision::decide(sent(70), &[15; 64]));
+    print(decision::decide(sent(70), &[255; 64]));
+    print(decision::decide(sent(70), &[16; 64]));
 }

@@ -13,7 +13,7 @@ use Rattle.decision.specs.Decision.{negative, codeOf, decision}
 use Rattle.damage.specs.Damage.{sent}
 use Rattle.walsh.proofs.Signed.{abs-signed, signed-twice}
 use Rattle.walsh.proofs.Sizes.{corr-within}
-use Rattle.decision.proofs.Choice.{decision-law}
+use Rattle.decision.proofs.Choice.{decision-law, nearest}
 use Rattle.block_decoder.specs.Decoding.{symbolsOf, countIn, characterAt}
 use Rattle.demands.specs.Laws.{Range}
 use Rattle.demands.proofs.Hearings.{count-within}
@@ -72,8 +72,7 @@ module _ (h : ℕ → ℤ) (small : (t : ℕ) → natAbs (h t) ≤ 1) where
 
   pub lead-high : decision (corr h) .lead ≤ 64
   lead-high =
-      let choice = decision-law .chosen (corr h) in
-      omega (arith, choice .1 .attained .3, corr-small (choice .0))
+      omega (arith, nearest (decision-law .chosen (corr h)), corr-small (decision (corr h) .word))
 
   -- what a clean character's counts are
   pub record CleanCounts : Type 0 where
@@ -87,13 +86,13 @@ module _ (h : ℕ → ℤ) (small : (t : ℕ) → natAbs (h t) ≤ 1) where
   unfolding corr sent
   clean-counts e =
       let choice = decision-law .chosen (corr h) in
-      let w = choice .0 in
-      let whole : natAbs (corr h w) ≡ 64 = omega (arith, choice .1 .attained .3, corr-small w) in
+      let w = decision (corr h) .word in
+      let whole : natAbs (corr h w) ≡ 64 = omega (arith, nearest choice, corr-small w) in
       record {
         word = w;
         sign = negative (corr h w);
-        below = choice .1 .word;
-        code = choice .1 .code;
+        below = choice .winner .among;
+        code = choice .code ∙ ap (λ (z : ℤ). codeOf w (negative z)) (choice .correlation);
         counts = λ t l.
             sym (signed-twice (minus w t) (h t))
             ∙ ap (signed (minus w t)) (all-agree 64 (λ t. signed (minus w t) (h t)) (λ k. omega (arith, abs-signed (minus w k) (h k), small k)) whole t l);

@@ -17,7 +17,6 @@ use Rattle.refusal.specs.Checks.{isMode, IsSet}
 use Rattle.refusal.proofs.Limits.{mode-range, lead-range}
 use Rattle.damage.specs.Laws.{Withstands}
 use Rattle.decision.specs.declared.Character.{Character}
-use Rattle.decision.proofs.Choice.{same-character}
 use Rattle.damage.proofs.Drift.{damage-law}
 use Rattle.chain.specs.Chain.{tonesOf}
 use Rattle.chain.proofs.Tones.{tones-length, tone-sent, tone-below}
@@ -30,9 +29,9 @@ use Rattle.block_decoder.proofs.Characters.{characters-length, character-at}
 use Rattle.block_decoder.proofs.Clarity.{all-clear, clear-lead}
 use Rattle.block_decoder.proofs.Answers.{decided}
 use Rattle.demands.specs.Demand.{flag, isMissing, isReplaced, missingIn, replacedIn, Gives, RefusesAsUnclear, Demand3}
-use Rattle.demands.specs.Laws.{RoundTrip}
-use Rattle.demands.proofs.Agreement.{lead-high}
-use Rattle.demands.proofs.Hearings.{wordOf, signOf, word-below, code-of-word, tone-present, count-within, block-damage}
+use Rattle.demands.specs.Laws.{undamaged, RoundTrip}
+use Rattle.demands.proofs.Hearings.{wordOf, signOf, word-below, code-of-word, tone-present, block-damage}
+use Rattle.demands.proofs.Undamaged.{heard-undamaged}
 use Rattle.demands.proofs.Sent.{sends, air-sent}
 use Rattle.demands.proofs.Answers.{refuses, gives}
 
@@ -147,13 +146,12 @@ demand3 = record {
 
 -- ---- the round trip
 
--- every character of the undamaged block is decided with lead 64
-pub sent-character : (b : ℕ) (text : List ℕ) (q : ℕ) → isMode b ≡ true → IsText b text → q < b
-    → characterAt b (tonesOf b text) q ≡ record { code = num text q; lead = 64 }
+pub sent-character : (b : ℕ) (text : List ℕ) (q : ℕ) → isMode b ≡ true → IsText b text → q < b → characterAt b (tonesOf b text) q ≡ undamaged (num text q)
 unfolding characterAt
 sent-character b text q mode is-text hq =
-    let d = code-decided b 64 text (tonesOf b text) (record { mode = mode; lead = refl }) is-text (tones-length b text) q hq (omega (arith, none-missing b text (mode-range b mode .1), none-replaced (tonesOf b text))) in
-    same-character (d .0) (omega (arith, d .1, lead-high (countIn b (symbolsOf (tonesOf b text)) q) (count-within b (symbolsOf (tonesOf b text)) q)))
+    let high : b ≤ 8 = mode-range b mode .1 in
+    heard-undamaged (num text q) (is-text .codes q hq) (countIn b (symbolsOf (tonesOf b text)) q)
+    (omega (arith, block-damage b text (tonesOf b text) high q hq (tones-length b text), none-missing b text high, none-replaced (tonesOf b text)))
 
 pub round-trip : RoundTrip
 unfolding charactersOf
@@ -167,6 +165,6 @@ round-trip = record {
         characters =
             rw on-air
             (ap (λ (d : BlockDecoded). d .characters) (decided b m (tonesOf b text) (length out) s (sent-tones b text) room-heard)
-            ∙ ap padded (tab-ext none (characterAt b (tonesOf b text)) (λ q. record { code = num text q; lead = 64 }) b (λ q l. sent-character b text q (s .mode) is-text l)));
+            ∙ ap padded (tab-ext none (characterAt b (tonesOf b text)) (λ q. undamaged (num text q)) b (λ q l. sent-character b text q (s .mode) is-text l)));
       };
 }

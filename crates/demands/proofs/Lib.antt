@@ -1,4 +1,5 @@
 pub mod Hearings
+pub mod Undamaged
 pub mod Agreement
 pub mod Answers
 pub mod Sent

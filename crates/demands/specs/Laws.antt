@@ -1,13 +1,15 @@
 -- The laws of a block. Each is the promise of the function of the same name in src/laws.rt.
 use mathlib.Core.Path.{_≡_}
+use mathlib.Core.Bool.{cond}
 use mathlib.Core.Logic.{_≢_}
 use mathlib.Core.List.{List}
-use Prim.Native.Nat.{ℕ, _-_, _*_, _<_, _≤_, _^_}
-use lib.IntN.{natAbs}
+use Prim.Native.Nat.{ℕ, _-_, _*_, _%_, _<_, _≤_, _^_}
+use lib.Dec.{leb, eqb}
+use lib.IntN.{pos, natAbs}
 use lib.ListN.{length, take}
 use Rattle.lists.specs.Lists.{tab, num, over}
 use Rattle.refusal.specs.Checks.{IsSet}
-use Rattle.walsh.specs.Words.{corr}
+use Rattle.walsh.specs.Words.{signed, corr}
 use Rattle.decision.specs.declared.Character.{Character}
 use Rattle.chain.specs.Chain.{missingMark}
 use Rattle.tone_range.specs.Range.{HasTones}
@@ -32,11 +34,22 @@ pub record AreSent (b : ℕ) (tones : List ℕ) : Type 0 where
 pub record NoMark : Type 0 where
   pub sent : (b : ℕ) (text tones : List ℕ) → AreSent b (air b text tones)
 
+-- the record of a code that is heard undamaged: all 64 symbols speak for its word, or all against it, and for any other word as many as against
+abbrev pub undamaged : ℕ → Character
+undamaged v = record {
+  code = v;
+  lead = 64;
+  word = v % 64;
+  correlation = signed (leb 64 v) (pos 64);
+  next = cond (eqb (v % 64) 0) 1 0;
+  «next_correlation» = pos 0;
+}
+
 -- A text encoded and decoded, into outputs long enough and at any m, comes back with every lead 64.
 pub record ComesBack (b m : ℕ) (text tones out : List ℕ) : Type 0 where
   pub sent : encodeBlock b text (length tones) ≡ Tones 64
   pub given : Gives b text (decodeBlock b m (air b text tones) (length out)) out (decodedInto b m (air b text tones) out)
-  pub characters : decodeBlock b m (air b text tones) (length out) .characters ≡ padded (tab (λ q. record { code = num text q; lead = 64 }) b)
+  pub characters : decodeBlock b m (air b text tones) (length out) .characters ≡ padded (tab (λ q. undamaged (num text q)) b)
 
 pub record RoundTrip : Type 0 where
   pub back : (b m : ℕ) (text tones out : List ℕ) → IsSet b m → IsText b text → 64 ≤ length tones → b ≤ length out → ComesBack b m text tones out

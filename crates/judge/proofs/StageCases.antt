@@ -14,7 +14,8 @@ use Rattle.block_decoder.specs.Decoding.{decodeBlock}
 use Rattle.block_decoder.specs.declared.BlockDecoded.{BlockDecoded}
 use Rattle.stages.specs.declared.Listing.{Listing}
 use Rattle.stages.specs.declared.Stage.the-variants.{Settings, Blocks, Stopped}
-use Rattle.report.specs.Output.{blockText, refusedText, unreadableText}
+use Rattle.report.specs.Output.{refusedText, unreadableText}
+use Rattle.block_report.specs.Lines.{blockText}
 use Rattle.stages.specs.Stages.{hearing, stops}
 use Rattle.judge.specs.Judged.{checkedSaid, settingsSaid, decodedSaid, blockSaid, judged, closed, goesOn}
 

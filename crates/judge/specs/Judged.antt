@@ -13,7 +13,8 @@ use Rattle.block_decoder.specs.Decoding.{decodeBlock}
 use Rattle.block_decoder.specs.declared.Decoded.{Decoded}
 use Rattle.block_decoder.specs.declared.Decoded.the-variants.{Text, Refused}
 use Rattle.block_decoder.specs.declared.BlockDecoded.{BlockDecoded}
-use Rattle.report.specs.Output.{blockText, refusedText, unreadableText}
+use Rattle.report.specs.Output.{refusedText, unreadableText}
+use Rattle.block_report.specs.Lines.{blockText}
 use Rattle.stages.specs.declared.Stage.{Stage}
 use Rattle.stages.specs.declared.Stage.the-variants.{Settings, Blocks, Stopped}
 use Rattle.stages.specs.declared.Listing.{Listing}

@@ -106,7 +106,7 @@ fn take_answer(listing: Listing, decoded: BlockDecoded, out: &mut [u8]) -> Progr
     ensures answer { λ r. ⌜ r ≡ toldIn (length (now (out .entry))) (decodedSaid (listing .mode) (listing .«least_lead») (listing .blocks) decoded) ⌝ }
     ensures output { λ _. ⌜ now (out .exit) ≡ over (fitting (decodedSaid (listing .mode) (listing .«least_lead») (listing .blocks) decoded .text) (length (now (out .entry)))) (now (out .entry)) ⌝ }
 {
-    let written = report::put_block(listing.blocks, decoded, out);
+    let written = block_report::put_block(listing.blocks, decoded, out);
     let answer = decoded.answer;
     if !goes_on(answer) {
         return stages::stopped(written);

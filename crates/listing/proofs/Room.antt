@@ -17,7 +17,8 @@ use Rattle.refusal.specs.Checks.{isMode, isLead}
 use Rattle.block_decoder.specs.Decoding.{refused, decodeBlock}
 use Rattle.block_decoder.specs.declared.BlockDecoded.{BlockDecoded}
 use Rattle.block_decoder.proofs.DecodeCases.{refuses-mode, refuses-lead, refuses-count}
-use Rattle.report.specs.Output.{blockText, unreadableText}
+use Rattle.report.specs.Output.{unreadableText}
+use Rattle.block_report.specs.Lines.{blockText}
 use Rattle.stages.specs.declared.Stage.{Stage}
 use Rattle.stages.specs.declared.Stage.the-variants.{Settings, Blocks, Stopped}
 use Rattle.stages.specs.declared.Listing.{Listing}

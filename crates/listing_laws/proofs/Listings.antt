@@ -21,7 +21,8 @@ use Rattle.block_decoder.specs.Decoding.{decodeBlock}
 use Rattle.block_decoder.specs.declared.BlockDecoded.{BlockDecoded}
 use Rattle.block_decoder.proofs.DecodeCases.{refuses-count}
 use Rattle.stages.specs.declared.Listing.{Listing}
-use Rattle.report.specs.Output.{heading, blockText, refusedText, unreadableText}
+use Rattle.report.specs.Output.{heading, refusedText, unreadableText}
+use Rattle.block_report.specs.Lines.{blockText}
 use Rattle.listing_laws.specs.Listed.{blockHeard, blocksListed, checkedListed, linesListed, listed}
 use Rattle.stages.specs.Stages.{Said, begun, hearing, stopped, stops, isStopped, endingText}
 use Rattle.judge.specs.Judged.{checkedSaid, settingsSaid, decodedSaid, blockSaid, judged, closed, goesOn}

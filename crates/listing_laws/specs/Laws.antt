@@ -30,7 +30,7 @@ pub record Stops : Type 0 where
   pub at-end : (listing : Listing) (tones : List ℕ) → isStopped (heard listing tones [] .next .stage) ≡ true
   pub silent : (listing : Listing) (tones : List ℕ) (pieces : List (List ℕ)) → isStopped (listing .stage) ≡ true → printed listing tones pieces ≡ []
 
--- document 01's example, for the key's bits 0 to 63, and what it says of an empty input
+-- document 01's example, for the key's bits 0 to 63, as order 5 has it, and what is said of an empty input
 pub record Example : Type 0 where
-  pub key-bits : listed (ascii "1 64\n0 0 1 1 0 1 1 1 0 0 1 0 1 1 1 0 1 0 1 0 1 0 0 0 1 0 0 1 0 1 0 0 0 0 0 0 1 0 1 1 0 1 1 0 0 1 1 1 1 1 1 0 1 0 1 0 0 1 0 0 0 1 1 1\n") ≡ ascii "BLOCK CHAR CODE LEAD\n0 0 0 64\nEND 1\n"
-  pub empty : listed [] ≡ ascii "BLOCK CHAR CODE LEAD\nREFUSED INPUT 1\n"
+  pub key-bits : listed (ascii "1 64\n0 0 1 1 0 1 1 1 0 0 1 0 1 1 1 0 1 0 1 0 1 0 0 0 1 0 0 1 0 1 0 0 0 0 0 0 1 0 1 1 0 1 1 0 0 1 1 1 1 1 1 0 1 0 1 0 0 1 0 0 0 1 1 1\n") ≡ ascii "BLOCK CHAR CODE LEAD WORD CORR NEXT CORR\n0 0 0 64 0 64 1 0\nEND 1\n"
+  pub empty : listed [] ≡ ascii "BLOCK CHAR CODE LEAD WORD CORR NEXT CORR\nREFUSED INPUT 1\n"

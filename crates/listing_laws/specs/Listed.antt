@@ -8,7 +8,8 @@ use Rattle.refusal.specs.Checks.{isMode, isLead}
 use Rattle.refusal.specs.Refused.{refusedAt}
 use Rattle.block_decoder.specs.Decoding.{decodeBlock}
 use Rattle.block_decoder.specs.declared.BlockDecoded.{BlockDecoded}
-use Rattle.report.specs.Output.{heading, blockText, refusedText, unreadableText, endText}
+use Rattle.report.specs.Output.{heading, refusedText, unreadableText, endText}
+use Rattle.block_report.specs.Lines.{blockText}
 use Rattle.judge.specs.Judged.{goesOn}
 
 -- hearing the tones of a line, with room for any block's codes

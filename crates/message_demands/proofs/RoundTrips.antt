@@ -18,6 +18,7 @@ use Rattle.block_encoder.specs.declared.Encoded.the-variants.{Tones}
 use Rattle.block_decoder.specs.Decoding.{none, leadIn, characterAt, charactersOf, codesOf, firstUnclear, unlessUnclear}
 use Rattle.block_decoder.specs.declared.Decoded.the-variants.{Text}
 use Rattle.block_decoder.proofs.Clarity.{all-clear, clear-told}
+use Rattle.demands.specs.Laws.{undamaged}
 use Rattle.demands.proofs.Demands.{sent-character}
 use Rattle.delivery.specs.Delivery.{delivery}
 use Rattle.delivery.proofs.TextAnswers.{answers}
@@ -33,7 +34,7 @@ use Rattle.message_demands.proofs.SentMessages.{sent-block, sent-in-ran
 
 -- the decision on character i of a text heard as sent
 abbrev heardAs : List ℕ → ℕ → Character
-heardAs text i = record { code = num text i; lead = 64 }
+heardAs text i = undamaged (num text i)
 
 -- ---- characters that are all heard as sent
 
@@ -84,7 +85,7 @@ module _ (limit b m : ℕ) (text : List ℕ) (s : IsSet b m) (message : IsMessag
       let block = rw append-nil at (sent-block b text n k [] h) in
       ap (λ (x : List ℕ). characterAt b x q) block
       ∙ sent-character b (blockCodes b text k) q (s .mode) (block-text text (sendable limit text message b (s .mode) .codes) b k) l
-      ∙ ap (λ (code : ℕ). record { code = code; lead = 64 }) (block-code b text k q l)
+      ∙ ap undamaged (block-code b text k q l)
 
   characters-sent : (n : ℕ) → heardCharacters b (sentTones b text n) n ≡ tab (heardAs text) (n * b)
   unfolding heardCharacters charactersOf

@@ -1,12 +1,13 @@
 -- What C is told of each answer (include/olivia.h).
 use mathlib.Core.List.{List}
 use Prim.Native.Nat.{ℕ, min}
+use lib.ListN.{getD}
 use Rattle.lists.specs.Lists.{tab}
 use Rattle.refusal.specs.declared.Refusal.{Refusal}
 use Rattle.decision.specs.declared.Character.{Character}
 use Rattle.block_encoder.specs.declared.Encoded.{Encoded}
 use Rattle.block_encoder.specs.declared.Encoded.the-variants as encoded
-use Rattle.block_decoder.specs.Decoding.{leadIn}
+use Rattle.block_decoder.specs.Decoding.{none}
 use Rattle.block_decoder.specs.declared.Decoded.{Decoded}
 use Rattle.block_decoder.specs.declared.Decoded.the-variants as decoded
 use Rattle.block_decoder.specs.declared.BlockDecoded.{BlockDecoded}
@@ -15,6 +16,7 @@ use Rattle.scaled.specs.Exact.{scaled}
 use Rattle.band.specs.declared.Tuned.{Tuned}
 use Rattle.band.specs.declared.Tuned.the-variants as tuned
 use Rattle.olivia.specs.declared.Answer.{Answer}
+use Rattle.olivia.specs.declared.CharacterAnswer.{CharacterAnswer}
 use Rattle.olivia.specs.declared.BlockAnswer.{BlockAnswer}
 use Rattle.olivia.specs.declared.HertzAnswer.{HertzAnswer}
 use Rattle.olivia.specs.declared.TrialAnswers.{TrialAnswers}
@@ -34,12 +36,22 @@ abbrev pub decodedTold : Decoded → Answer
 decodedTold (decoded.Text n) = acceptedTold n
 decodedTold (decoded.Refused r) = refusalTold r
 
--- the leads of the eight characters
-unfoldable pub leadsOf : List Character → List ℕ
-leadsOf characters = tab (leadIn characters) 8
+abbrev pub characterTold : Character → CharacterAnswer
+characterTold c = record {
+  code = c .code;
+  lead = c .lead;
+  word = c .word;
+  correlation = c .correlation;
+  next = c .next;
+  «next_correlation» = c .«next_correlation»;
+}
+
+-- all eight characters
+unfoldable pub charactersTold : List Character → List CharacterAnswer
+charactersTold characters = tab (λ q. characterTold (getD characters q none)) 8
 
 unfoldable pub blockTold : BlockDecoded → BlockAnswer
-blockTold d = record { answer = decodedTold (d .answer); leads = leadsOf (d .characters) }
+blockTold d = record { answer = decodedTold (d .answer); characters = charactersTold (d .characters) }
 
 -- a refusal has no frequency: 0 stands there
 abbrev pub hertzTold : Tuned → HertzAnswer

@@ -1,6 +1,7 @@
 // The C library: the entries of document 01 for C and C++. include/olivia.h declares them.
 use block_decoder::Decoded;
 use block_encoder::Encoded;
+use decision::Character;
 use refusal::Refusal;
 ghost use mathlib.Core.Path.{_≡_};
 ghost use Prim.Native.Nat.{_<_, _^_};
@@ -11,7 +12,7 @@ ghost use Rattle.message_encoder.specs.Blocks.{longest};
 ghost use Rattle.message_encoder.specs.Encoding.{encodeMessage, messageEncodedInto};
 ghost use Rattle.message_decoder.specs.Decoding.{decodeMessage, messageDecodedInto};
 ghost use Rattle.band.specs.Frequencies.{frequencyOf};
-ghost use Rattle.olivia.specs.Told.{acceptedTold, refusalTold, encodedTold, decodedTold, leadsOf, blockTold, hertzTold, capped};
+ghost use Rattle.olivia.specs.Told.{acceptedTold, refusalTold, encodedTold, decodedTold, characterTold, charactersTold, blockTold, hertzTold, capped};
 ghost use Rattle.olivia.specs.Tried.{TriedForC};
 ghost use Rattle.olivia.specs.Internal.{carriedBy, heardCarries};
 
@@ -24,12 +25,33 @@ pub struct Answer {
     pub count: u32,
 }
 
-// The answer for a block, and its characters' leads; 0 past the mode's, and where none was decided.
+// A decided character: code and lead, the word that won and the word that came next, each with its correlation.
+#[repr(C)]
+pub struct CharacterAnswer {
+    pub code: u32,
+    pub lead: u32,
+    pub word: u32,
+    pub correlation: i32,
+    pub next: u32,
+    pub next_correlation: i32,
+}
+
+// The answer for a block, and its characters; six zeros past the mode's, and where none was decided.
 #[repr(C)]
 pub struct BlockAnswer {
     pub answer: Answer,
-    pub leads: [u32; 8],
+    pub characters: [CharacterAnswer; 8],
 }
+
+// What the characters are written over.
+const UNTOLD: CharacterAnswer = CharacterAnswer {
+    code: 0,
+    lead: 0,
+    word: 0,
+    correlation: 0,
+    next: 0,
+    next_correlation: 0,
+};
 
 // number 0: the frequency. Else the refusal, and hertz is 0.
 #[repr(C)]
@@ -72,7 +94,7 @@ pub extern "C" fn olivia_decode_block(
     let characters = heard.characters;
     BlockAnswer {
         answer: told_decoded(answer),
-        leads: leads_of(characters),
+        characters: told_characters(characters),
     }
 }
 
@@ -191,17 +213,29 @@ fn told_decoded(answer: Decoded) -> Answer
     }
 }
 
-fn leads_of(characters: [decision::Character; 8]) -> [u32; 8]
-    ensures { λ r. ⌜ r ≡ leadsOf characters ⌝ }
+fn told_characters(characters: [Character; 8]) -> [CharacterAnswer; 8]
+    ensures { λ r. ⌜ r ≡ charactersTold characters ⌝ }
 {
-    let mut leads = [0u32; 8];
+    let mut told = [UNTOLD; 8];
     let mut q: usize = 0;
     while q < 8 {
-        let character = characters[q];
-        leads[q] = character.lead;
+        told[q] = told_character(characters[q]);
         q += 1;
     }
-    leads
+    told
+}
+
+fn told_character(character: Character) -> CharacterAnswer
+    ensures { λ r. ⌜ r ≡ characterTold character ⌝ }
+{
+    CharacterAnswer {
+        code: character.code as u32,
+        lead: character.lead,
+        word: character.word,
+        correlation: character.correlation,
+        next: character.next,
+        next_correlation: character.next_correlation,
+    }
 }
 
 // A count for C: 2^32 - 1 stands for every larger one.

@@ -1,4 +1,1 @@
-pub mod TextBounds
-pub mod Elements
 pub mod Puts
-pub mod BlockTexts

@@ -74,3 +74,9 @@ module _ (a out : List ℕ) {p : ℕ} {x : List ℕ} (put : Put a out p x) where
 
   pub put-room : (k : ℕ) → p + k ≤ length out → k ≤ length (take (length x - p) (drop p x))
   put-room k h = rw (part-to-end x p) (omega (arith, put-size (omega arith), length-drop p x))
+
+  -- a text that is put whole or not at all is put whole where there is room
+  pub put-rest : (b : List ℕ) {q : ℕ} {y : List ℕ} → p + length b ≤ length out
+      → Put (written b (length (take (length x - p) (drop p x)))) (take (length x - p) (drop p x)) q y
+      → Put b (take (length x - p) (drop p x)) q y
+  put-rest b h next = put-whole b (take (length x - p) (drop p x)) (put-room (length b) h) next

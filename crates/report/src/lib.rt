@@ -1,58 +1,16 @@
-// The lines of a listing, put at the front of an output: document 01, "The listing program". The answer is how many bytes were written.
-// Nothing is written to an output of less than ROOM bytes.
-use block_decoder::BlockDecoded;
-use block_decoder::Decoded;
+// The lines that end a listing, put at the front of an output: document 01, "The listing program". The answer is how many bytes were
+// written. Nothing is written to an output of less than ROOM bytes.
 use refusal::Refusal;
 use text::LINE_FEED;
+use text::SPACE;
 ghost use mathlib.Core.Path.{_≡_};
-ghost use Prim.Native.Nat.{_≤_, min};
+ghost use Prim.Native.Nat.{_≤_};
 ghost use lib.ListN.{length};
 ghost use Rattle.lists.specs.Lists.{over};
-ghost use Rattle.report.specs.Output.{fitting, refusalText, blockText, refusedText, unreadableText, endText};
+ghost use Rattle.report.specs.Output.{fitting, refusedText, unreadableText, endText};
 
-mod lines;
-
-// The room that every text has to have: eight lines of four numbers take 672 bytes at most, and no other text more.
+// The room that every text of a listing has to have. The longest is that of a block (`block_report`).
 pub const ROOM: usize = 1024;
-
-// What is said of a block that was decoded: a line for each character, or the line of the refusal.
-pub fn put_block(block: u64, decoded: BlockDecoded, out: &mut [u8]) -> usize
-    ensures answer { λ r. ⌜ r ≡ length (fitting (blockText block decoded) (length (now (out .entry)))) ⌝ }
-    ensures output { λ _. ⌜ now (out .exit) ≡ over (fitting (blockText block decoded) (length (now (out .entry)))) (now (out .entry)) ⌝ }
-{
-    if out.len() < ROOM {
-        return 0;
-    }
-    let answer = decoded.answer;
-    match answer {
-        Decoded::Text(n) => {
-            let characters = decoded.characters;
-            lines::put_characters(block, at_most_eight(n), characters, out)
-        }
-        Decoded::Refused(refusal) => put_refusal(block, refusal, out),
-    }
-}
-
-// No block has more characters: a larger count is taken as eight.
-fn at_most_eight(n: usize) -> usize
-    ensures { λ r. ⌜ r ≡ min n 8 ⌝ }
-{
-    if n < 8 {
-        return n;
-    }
-    8
-}
-
-fn put_refusal(block: u64, refusal: Refusal, out: &mut [u8]) -> usize
-    requires { ⌜ 1024 ≤ length (now out) ⌝ }
-    ensures answer { λ r. ⌜ r ≡ length (refusalText block refusal) ⌝ }
-    ensures output { λ _. ⌜ now (out .exit) ≡ over (refusalText block refusal) (now (out .entry)) ⌝ }
-{
-    if refusal.number == refusal::UNCLEAR {
-        return lines::put_unclear(block, refusal, out);
-    }
-    lines::put_refused(refusal, out)
-}
 
 pub fn put_refused(refusal: Refusal, out: &mut [u8]) -> usize
     ensures answer { λ r. ⌜ r ≡ length (fitting (refusedText refusal) (length (now (out .entry)))) ⌝ }
@@ -61,7 +19,16 @@ pub fn put_refused(refusal: Refusal, out: &mut [u8]) -> usize
     if out.len() < ROOM {
         return 0;
     }
-    lines::put_refused(refusal, out)
+    put_number_and_place(refusal, out)
+}
+
+fn put_number_and_place(refusal: Refusal, out: &mut [u8]) -> usize
+    requires { ⌜ 50 ≤ length (now out) ⌝ }
+    ensures answer { λ r. ⌜ r ≡ length (refusedText refusal) ⌝ }
+    ensures output { λ _. ⌜ now (out .exit) ≡ over (refusedText refusal) (now (out .entry)) ⌝ }
+{
+    let place = text::put_labelled(b"REFUSED ", refusal.number as u64, SPACE, out);
+    place + text::put_field(refusal.place as u64, LINE_FEED, &mut out[place..])
 }
 
 // The line of the input that cannot be read, counted from 1.
@@ -72,7 +39,7 @@ pub fn put_unreadable(line: u64, out: &mut [u8]) -> usize
     if out.len() < ROOM {
         return 0;
     }
-    lines::put_labelled(b"REFUSED INPUT ", line, LINE_FEED, out)
+    text::put_labelled(b"REFUSED INPUT ", line, LINE_FEED, out)
 }
 
 pub fn put_end(blocks: u64, out: &mut [u8]) -> usize
@@ -82,5 +49,5 @@ pub fn put_end(blocks: u64, out: &mut [u8]) -> usize
     if out.len() < ROOM {
         return 0;
     }
-    lines::put_labelled(b"END ", blocks, LINE_FEED, out)
+    text::put_labelled(b"END ", blocks, LINE_FEED, out)
 }

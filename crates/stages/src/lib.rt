@@ -49,7 +49,7 @@ fn put_heading(out: &mut [u8; OUTPUT]) -> usize
     ensures answer { λ r. ⌜ r ≡ length heading ⌝ }
     ensures output { λ _. ⌜ now (out .exit) ≡ over heading (now (out .entry)) ⌝ }
 {
-    text::put_text(b"BLOCK CHAR CODE LEAD\n", out)
+    text::put_text(b"BLOCK CHAR CODE LEAD WORD CORR NEXT CORR\n", out)
 }
 
 // The text after the last line, if the output has room for any text.

@@ -1,4 +1,4 @@
--- A number in decimal: its last digit after those of its tenth, and how many there are.
+-- A number in decimal: its last digit after those of its tenth, and how many there are; the length with a sign, and of a field.
 use mathlib.Core.Path.{_≡_, sym, _∙_, ap}
 use mathlib.Core.List.{List, [], _∷_, _++_}
 use Prim.Native.Nat.{ℕ, zero, suc, _+_, _<_, _≤_, _/_, _%_, _^_}
@@ -6,8 +6,9 @@ use native.Mathlib.Decide.{decLt}
 use native.Mathlib.Nat.{pow-suc}
 use native.Mathlib.Omega.{arith}
 use borrow.Author.Tests.{lt-ltb, le-ltb}
+use lib.IntN.{ℤ, pos, negsuc, natAbs}
 use lib.ListN.{length, length-append}
-use Rattle.text.specs.Decimal.{digits, decimal}
+use Rattle.text.specs.Decimal.{digits, decimal, signedDecimal, field, signedField}
 
 digits-small : (count n : ℕ) → n < 10 → digits (suc count) n ≡ (48 + n) ∷ []
 unfolding digits
@@ -53,3 +54,27 @@ decimal-length (suc k) n h = by (decimal-length k (n / 10)) (decLt n 10)
 
 pub decimal-short : (n : ℕ) → n < 2 ^ 64 → length (decimal n) ≤ 20
 decimal-short n h = decimal-length 19 n (omega arith)
+
+pub decimal-short-32 : (n : ℕ) → n < 2 ^ 32 → length (decimal n) ≤ 10
+decimal-short-32 n h = decimal-length 9 n (omega arith)
+
+pub signed-short : (z : ℤ) → natAbs z < 2 ^ 32 → length (signedDecimal z) ≤ 11
+unfolding signedDecimal
+signed-short (pos n) h = omega (arith, decimal-short-32 n h)
+signed-short (negsuc n) h = omega (arith, decimal-short-32 (suc n) h)
+
+pub field-length : (n end : ℕ) → n < 2 ^ 64 → length (field n end) ≤ 21
+unfolding field
+field-length n end h = omega (arith, length-append (decimal n) (end ∷ []), decimal-short n h)
+
+pub field-length-32 : (n end : ℕ) → n < 2 ^ 32 → length (field n end) ≤ 11
+unfolding field
+field-length-32 n end h = omega (arith, length-append (decimal n) (end ∷ []), decimal-short-32 n h)
+
+pub signed-field-length : (z : ℤ) (end : ℕ) → natAbs z < 2 ^ 32 → length (signedField z end) ≤ 12
+unfolding signedField
+signed-field-length z end h = omega (arith, length-append (signedDecimal z) (end ∷ []), signed-short z h)
+
+pub field-some : (n end : ℕ) → 1 ≤ length (field n end)
+unfolding field
+field-some n end = omega (arith, length-append (decimal n) (end ∷ []))

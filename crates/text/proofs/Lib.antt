@@ -1,4 +1,8 @@
 pub mod Digits
 pub mod Decimals
+pub mod Endings
+pub mod Parts
 pub mod ReadBack
+pub mod Signs
 pub mod Writing
+pub mod Labels

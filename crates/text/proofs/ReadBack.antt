@@ -1,15 +1,17 @@
--- The decimal digits of a number are digits, and their value is the number: the law of numbers.
-use mathlib.Core.Path.{_≡_, refl}
+-- The decimal digits of a number are digits, and their value is the number, with a sign too: the laws of numbers.
+use mathlib.Core.Path.{_≡_, refl, _∙_, ap}
 use mathlib.Core.Bool.{Bool, true, false, cond, and-eq-true-iff}
 use mathlib.Core.List.{List, [], _∷_, _++_}
 use Prim.Native.Nat.{ℕ, zero, suc, _+_, _-_, _*_, _/_, _%_, _<_}
 use native.Mathlib.Omega.{arith}
-use borrow.Author.Tests.{ltb-true, ltb-false}
+use borrow.Author.Tests.{ltb-true, ltb-false, ne-eqb}
 use lib.Dec.{ltb}
+use lib.IntN.{ℤ, pos, negsuc, negℤ}
 use Rattle.lists.specs.Lists.{every}
-use Rattle.text.specs.Decimal.{isDigit, valueFrom, digits, decimal}
-use Rattle.text.specs.Laws.{Numbers}
-use Rattle.text.proofs.Digits.{is-digit}
+use Rattle.text.specs.Ascii.{hyphen}
+use Rattle.text.specs.Decimal.{isDigit, valueFrom, digits, decimal, signedDecimal, signedValue}
+use Rattle.text.specs.Laws.{Numbers, SignedNumbers}
+use Rattle.text.proofs.Digits.{is-digit, digit-range}
 
 every-last : {A : Type 0} (p : A → Bool) (xs : List A) (y : A) → every p xs ≡ true → p y ≡ true → every p (xs ++ (y ∷ [])) ≡ true
 unfolding every
@@ -53,3 +55,30 @@ read-back n = digits-read-back (suc n) n (omega arith)
 
 pub numbers : Numbers
 numbers = record { are-digits = are-digits; read-back = read-back }
+
+-- ---- with a sign
+
+-- digits have no minus before them
+digits-value : (cs : List ℕ) → every isDigit cs ≡ true → signedValue cs ≡ pos (valueFrom 0 cs)
+unfolding signedValue every valueFrom
+digits-value [] h = refl
+digits-value (c ∷ cs) h =
+    let digit = digit-range c (and-eq-true-iff (isDigit c) (every isDigit cs) .0 h .0) in
+    rw (ne-eqb c hyphen (λ e. omega (arith, digit .0)))
+
+signed-are-digits : (n : ℕ) → every isDigit (signedDecimal (pos n)) ≡ true
+unfolding signedDecimal
+signed-are-digits n = are-digits n
+
+minus-before : (n : ℕ) → 0 < n → signedDecimal (negℤ (pos n)) ≡ hyphen ∷ signedDecimal (pos n)
+unfolding signedDecimal
+minus-before zero h = absurd (omega arith)
+minus-before (suc n) h = refl
+
+signed-read-back : (z : ℤ) → signedValue (signedDecimal z) ≡ z
+unfolding signedDecimal signedValue
+signed-read-back (pos n) = digits-value (decimal n) (are-digits n) ∙ ap pos (read-back n)
+signed-read-back (negsuc n) = ap (λ (m : ℕ). negℤ (pos m)) (read-back (suc n))
+
+pub signed-numbers : SignedNumbers
+signed-numbers = record { are-digits = signed-are-digits; minus-before = minus-before; read-back = signed-read-back }

@@ -1,8 +1,11 @@
 // Text in ASCII, put at the front of an output: bytes, and numbers in decimal. The answer is how many bytes were written.
 ghost use mathlib.Core.Path.{_≡_};
-ghost use lib.ListN.{length};
+ghost use mathlib.Core.List.{_++_};
+ghost use Prim.Native.Nat.{_+_, _≤_};
+ghost use lib.IntN.{natAbs};
+ghost use lib.ListN.{length, take, drop};
 ghost use Rattle.lists.specs.Lists.{over};
-ghost use Rattle.text.specs.Decimal.{decimal};
+ghost use Rattle.text.specs.Decimal.{decimal, field, signedField};
 ghost use Rattle.text.specs.Written.{written};
 
 pub mod laws;
@@ -31,20 +34,78 @@ pub fn put_text(text: &[u8], out: &mut [u8]) -> usize
     i
 }
 
-// A number in decimal, whole or not at all. Its digits are made from the last to the first.
+// The digits of a number, from the last to the first, put before a place of a text. The answer is where they begin.
+fn put_before(n: u64, place: usize, text: &mut [u8]) -> usize
+    requires { ⌜ (20 ≤ place) × (place ≤ length (now text)) ⌝ }
+    ensures answer { λ r. ⌜ r + length (decimal n) ≡ place ⌝ }
+    ensures output { λ r. ⌜ now (text .exit) ≡ take r (now (text .entry)) ++ (decimal n ++ drop place (now (text .entry))) ⌝ }
+{
+    let mut from = place;
+    let mut left = n;
+    while 10 <= left {
+        from -= 1;
+        text[from] = b'0' + (left % 10) as u8;
+        left = left / 10;
+    }
+    from -= 1;
+    text[from] = b'0' + left as u8;
+    from
+}
+
+fn magnitude(n: i32) -> u64
+    ensures { λ r. ⌜ r ≡ natAbs n ⌝ }
+{
+    if n < 0 {
+        // Widened first: i32 does not hold the magnitude of its least number.
+        return (-(n as i64)) as u64;
+    }
+    n as u64
+}
+
+// A number in decimal, whole or not at all.
 pub fn put_decimal(n: u64, out: &mut [u8]) -> usize
     ensures answer { λ r. ⌜ r ≡ length (written (decimal n) (length (now (out .entry)))) ⌝ }
     ensures output { λ _. ⌜ now (out .exit) ≡ over (written (decimal n) (length (now (out .entry)))) (now (out .entry)) ⌝ }
 {
-    let mut digits = [0u8; DIGITS];
-    let mut from = DIGITS;
-    let mut left = n;
-    while 10 <= left {
-        from -= 1;
-        digits[from] = b'0' + (left % 10) as u8;
-        left = left / 10;
+    let mut text = [0u8; DIGITS];
+    let from = put_before(n, DIGITS, &mut text);
+    put_text(&text[from..], out)
+}
+
+// The same, and the byte that follows it.
+pub fn put_field(n: u64, end: u8, out: &mut [u8]) -> usize
+    ensures answer { λ r. ⌜ r ≡ length (written (field n end) (length (now (out .entry)))) ⌝ }
+    ensures output { λ _. ⌜ now (out .exit) ≡ over (written (field n end) (length (now (out .entry)))) (now (out .entry)) ⌝ }
+{
+    let mut text = [end; DIGITS + 1];
+    let from = put_before(n, DIGITS, &mut text);
+    put_text(&text[from..], out)
+}
+
+// The same of a signed number, a minus before a negative one.
+pub fn put_signed_field(n: i32, end: u8, out: &mut [u8]) -> usize
+    ensures answer { λ r. ⌜ r ≡ length (written (signedField n end) (length (now (out .entry)))) ⌝ }
+    ensures output { λ _. ⌜ now (out .exit) ≡ over (written (signedField n end) (length (now (out .entry)))) (now (out .entry)) ⌝ }
+{
+    // Each byte before the digits is a minus, and the text begins at the last of them if the number is negative.
+    let mut text = [b'-'; DIGITS + 2];
+    text[DIGITS + 1] = end;
+    let from = put_before(magnitude(n), DIGITS + 1, &mut text) - (n < 0) as usize;
+    put_text(&text[from..], out)
+}
+
+// A text before such a field, whole or not at all. The field comes first, since it tells whether both fit.
+pub fn put_labelled(label: &[u8], n: u64, end: u8, out: &mut [u8]) -> usize
+    ensures answer { λ r. ⌜ r ≡ length (written (now (label .entry) ++ field n end) (length (now (out .entry)))) ⌝ }
+    ensures output { λ _. ⌜ now (out .exit) ≡ over (written (now (label .entry) ++ field n end) (length (now (out .entry)))) (now (out .entry)) ⌝ }
+{
+    let at = label.len();
+    if out.len() < at {
+        return 0;
     }
-    from -= 1;
-    digits[from] = b'0' + left as u8;
-    put_text(&digits[from..], out)
+    let count = put_field(n, end, &mut out[at..]);
+    if count == 0 {
+        return 0;
+    }
+    count + put_text(label, out)
 }

@@ -31,7 +31,7 @@ butterfly-cases P x i f g = by (decLt i 32)
         let e : i ≡ i - 32 + 32 = omega arith in
         rw (e, butterfly-high x (i - 32)) (g (i - 32) e)
 
-tab-within : (b : ℕ) (f : ℕ → ℤ) → ((i : ℕ) → natAbs (f i) ≤ b) → Within b (tab f 64)
+pub tab-within : (b : ℕ) (f : ℕ → ℤ) → ((i : ℕ) → natAbs (f i) ≤ b) → Within b (tab f 64)
 tab-within b f h = record { within = λ i. by i (decLt i 64) }
   where
     by : (i : ℕ) → Dec (i < 64) → natAbs (at (tab f 64) i) ≤ b

@@ -4,10 +4,10 @@ use Rattle.decision_cases.proofs.print_every_code.Statement.{statement}
 use Rattle.decision_cases.proofs.print_every_code.Tie as tie
 
 abbrev Inv-loop : tie.InvT-loop
-Inv-loop code₀ code = code ≤ 128
+Inv-loop code₀ t2 code = code ≤ 128
 
 abbrev μ-loop : tie.MeasureT-loop
-μ-loop code₀ code = 128 - code
+μ-loop code₀ t2 code = 128 - code
 
 loop-holds : tie.Need-loop-holds Inv-loop μ-loop
 loop-holds c = search needs

@@ -2,21 +2,22 @@ use Prim.Native.Nat.{_-_, _≤_}
 use borrow.Author.Needs.{needs}
 use Rattle.decision_cases.proofs.sent.Statement.{statement}
 use Rattle.decision_cases.proofs.sent.Tie as tie
+use Rattle.walsh.proofs.is_minus.Reads as is-minus-reads
 
 abbrev Inv-loop : tie.InvT-loop
-Inv-loop code counts₀ t₀ counts t = t ≤ 64
+Inv-loop code signs₀ t₀ signs t = t ≤ 64
 
 abbrev μ-loop : tie.MeasureT-loop
-μ-loop code counts₀ t₀ counts t = 64 - t
+μ-loop code signs₀ t₀ signs t = 64 - t
 
 loop-holds : tie.Need-loop-holds Inv-loop μ-loop
 loop-holds c = search needs
 
-count-requires : tie.Need-count-requires Inv-loop μ-loop
-count-requires c κs = search needs
+is-minus-requires : tie.Need-is-minus-requires Inv-loop μ-loop
+is-minus-requires c κs = search needs
 
-array-set-from-counts : tie.Need-array-set-from-counts Inv-loop μ-loop
-array-set-from-counts c = search needs
+array-write-signs : tie.Need-array-write-signs Inv-loop μ-loop
+array-write-signs c = search needs
 
 add-t : tie.Need-add-t Inv-loop μ-loop
 add-t c = search needs
@@ -37,8 +38,8 @@ sent-spec =
     Inv-loop
     μ-loop
     loop-holds
-    count-requires
-    array-set-from-counts
+    is-minus-requires
+    array-write-signs
     add-t
     loop-less
     loop-again

@@ -11,8 +11,8 @@ decode-block-requires c κs = search needs
 told-decoded-requires : tie.Need-told-decoded-requires
 told-decoded-requires c κs = rw (c .before .before .before .decode-block .ensures .0) (block-heard-small _ _ _ _)
 
-leads-of-requires : tie.Need-leads-of-requires
-leads-of-requires c κs = search needs
+told-characters-requires : tie.Need-told-characters-requires
+told-characters-requires c κs = search needs
 
 same-length : tie.Need-same-length
 same-length c = search needs
@@ -21,9 +21,9 @@ returns : tie.Need-returns
 unfolding blockTold
 returns c =
     let called = c .before .before .before .before .before .decode-block in
-    (rw (c .before .told-decoded .ensures, c .leads-of .ensures) (ap blockTold (called .ensures .0)), called .ensures .1)
+    (rw (c .before .told-decoded .ensures, c .told-characters .ensures) (ap blockTold (called .ensures .0)), called .ensures .1)
 
 pub olivia-decode-block-spec : {M : Type 1} → statement M
 olivia-decode-block-spec =
     tie.close
-    (tie.spec decode-block-requires told-decoded-requires leads-of-requires same-length returns)
+    (tie.spec decode-block-requires told-decoded-requires told-characters-requires same-length returns)

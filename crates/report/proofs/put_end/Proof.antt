@@ -1,8 +1,10 @@
+use native.Mathlib.Omega.{arith}
 use borrow.Author.Needs.{needs}
 use Rattle.lists.specs.Lists.{tab}
-use Rattle.text.specs.Ascii.{ascii}
+use Rattle.text.specs.Ascii.{ascii, lineFeed}
+use Rattle.text.proofs.Decimals.{field-length}
 use Rattle.report.specs.Output.{endText}
-use Rattle.report.proofs.Puts.{put-short, put-fitting}
+use Rattle.report.proofs.Puts.{put-whole, put-short, put-fitting}
 use Rattle.report.proofs.put_end.Statement.{statement}
 use Rattle.report.proofs.put_end.Tie as tie
 
@@ -20,7 +22,11 @@ same-length c = search needs
 
 returns-2 : tie.Need-returns-2
 unfolding endText ascii tab
-returns-2 c = put-fitting _ _ (c .before .before .before .before .before .if1 .left) (c .before .before .put-labelled .ensures)
+returns-2 c =
+    let l = c .before .before in
+    let s = l .before .before .before .before .before in
+    put-fitting (endText (s .args .blocks)) (s .args .out .now) (c .before .before .before .before .before .if1 .left)
+    (put-whole (endText (s .args .blocks)) (s .args .out .now) (omega (arith, field-length (s .args .blocks) lineFeed (omega arith))) (l .put-labelled .ensures))
 
 pub put-end-spec : {M : Type 1} → statement M
 put-end-spec =

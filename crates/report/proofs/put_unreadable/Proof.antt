@@ -1,8 +1,10 @@
+use native.Mathlib.Omega.{arith}
 use borrow.Author.Needs.{needs}
 use Rattle.lists.specs.Lists.{tab}
-use Rattle.text.specs.Ascii.{ascii}
+use Rattle.text.specs.Ascii.{ascii, lineFeed}
+use Rattle.text.proofs.Decimals.{field-length}
 use Rattle.report.specs.Output.{unreadableText}
-use Rattle.report.proofs.Puts.{put-short, put-fitting}
+use Rattle.report.proofs.Puts.{put-whole, put-short, put-fitting}
 use Rattle.report.proofs.put_unreadable.Statement.{statement}
 use Rattle.report.proofs.put_unreadable.Tie as tie
 
@@ -20,7 +22,11 @@ same-length c = search needs
 
 returns-2 : tie.Need-returns-2
 unfolding unreadableText ascii tab
-returns-2 c = put-fitting _ _ (c .before .before .before .before .before .if1 .left) (c .before .before .put-labelled .ensures)
+returns-2 c =
+    let l = c .before .before in
+    let s = l .before .before .before .before .before in
+    put-fitting (unreadableText (s .args .line)) (s .args .out .now) (c .before .before .before .before .before .if1 .left)
+    (put-whole (unreadableText (s .args .line)) (s .args .out .now) (omega (arith, field-length (s .args .line) lineFeed (omega arith))) (l .put-labelled .ensures))
 
 pub put-unreadable-spec : {M : Type 1} → statement M
 put-unreadable-spec =

@@ -1,0 +1,15 @@
+use mathlib.Core.Path.{sym}
+use mathlib.Core.Bool.{not}
+use lib.Bits.{bitAnd}
+use lib.Dec.{eqb}
+use Rattle.chain.proofs.Xors.{turned-differs}
+use Rattle.block_decoder.specs.Internal.{signBy}
+use Rattle.block_decoder.proofs.interleaver.sign.Statement.{statement}
+use Rattle.block_decoder.proofs.interleaver.sign.Tie as tie
+
+returns : tie.Need-returns
+unfolding signBy
+returns c = let a = c .args in sym (turned-differs (a .key) (not (eqb (bitAnd (a .symbol) (a .weight)) 0)))
+
+pub sign-spec : {M : Type 1} → statement M
+sign-spec = tie.close (tie.spec returns)

@@ -1,0 +1,3 @@
+pub mod TextBounds
+pub mod Elements
+pub mod BlockTexts

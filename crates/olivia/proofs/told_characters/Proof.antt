@@ -1,0 +1,70 @@
+use mathlib.Core.Path.{_≡_, refl, _∙_}
+use Prim.Native.Nat.{_≤_, _-_}
+use native.Mathlib.Omega.{arith}
+use borrow.Author.Needs.{needs}
+use lib.ListN.{getD, replicate}
+use Rattle.lists.specs.Lists.{tab, over}
+use Rattle.lists.proofs.Fronts.{over-start, over-set, over-tab-whole}
+use Rattle.block_decoder.specs.Decoding.{none}
+use Rattle.olivia.specs.Told.{characterTold, charactersTold}
+use Rattle.olivia.proofs.told_characters.Statement.{statement}
+use Rattle.olivia.proofs.told_characters.Tie as tie
+
+abbrev Inv-loop : tie.InvT-loop
+Inv-loop characters told₀ q₀ told q = (q ≤ 8) × (told ≡ over (tab (λ k. characterTold (getD characters k none)) q) (replicate 8 (characterTold none)))
+
+abbrev μ-loop : tie.MeasureT-loop
+μ-loop characters told₀ q₀ told q = 8 - q
+
+loop-holds : tie.Need-loop-holds Inv-loop μ-loop
+loop-holds c = (search needs, over-start _ _)
+
+mul-told-character : tie.Need-mul-told-character Inv-loop μ-loop
+mul-told-character c = search needs
+
+array-copy-out-told-character : tie.Need-array-copy-out-told-character Inv-loop μ-loop
+array-copy-out-told-character c = search needs
+
+told-character-requires : tie.Need-told-character-requires Inv-loop μ-loop
+told-character-requires c κs = search needs
+
+mul-told : tie.Need-mul-told Inv-loop μ-loop
+mul-told c = search needs
+
+array-set-from-told : tie.Need-array-set-from-told Inv-loop μ-loop
+array-set-from-told c = search needs
+
+add-q : tie.Need-add-q Inv-loop μ-loop
+add-q c = search needs
+
+loop-less : tie.Need-loop-less Inv-loop μ-loop
+loop-less c = search needs
+
+loop-again : tie.Need-loop-again Inv-loop μ-loop
+loop-again c =
+    let l = c .before .before .before .loop in
+    (search needs, over-set (characterTold none) _ (l .q) _ _ _ (omega arith) (l .inv .1) (c .told-character .ensures))
+
+returns : tie.Need-returns Inv-loop μ-loop
+unfolding charactersTold
+returns c =
+    let l = c .before .loop in
+    let e : l .q ≡ 8 = omega arith in
+    (rw e at (l .inv .1)) ∙ over-tab-whole _ 8 _ (omega arith)
+
+pub told-characters-spec : {M : Type 1} → statement M
+told-characters-spec =
+    tie.close
+    (tie.spec
+    Inv-loop
+    μ-loop
+    loop-holds
+    mul-told-character
+    array-copy-out-told-character
+    told-character-requires
+    mul-told
+    array-set-from-told
+    add-q
+    loop-less
+    loop-again
+    returns)
