@@ -51,11 +51,24 @@ typedef struct {
     uint32_t count;
 } olivia_answer;
 
-/* A block's answer, and the leads of its b characters. The rest of leads is 0, and all of it after a refusal
- * but 10. */
+/* The record of a character: why it was chosen. word is the winning Walsh word, 0 to 63: the lowest-numbered of
+ * those whose correlation has the largest magnitude. next is the runner-up: the lowest-numbered of those with the
+ * largest magnitude among the other 63. correlation and next_correlation are theirs, signed, -64 to 64. lead is
+ * the magnitude of correlation minus that of next_correlation, and code is word, plus 64 if correlation is
+ * negative. So too for an unclear character, whose code is not written. */
+typedef struct {
+    uint32_t code, lead, word;
+    int32_t correlation;
+    uint32_t next;
+    int32_t next_correlation;
+} olivia_character;
+
+/* A block's answer, and the records of its b characters, also if it is refused with 10. The records past those
+ * are empty, six zeros each, and all eight after another refusal. The answers of a message and of a trial carry
+ * no records. */
 typedef struct {
     olivia_answer answer;
-    uint32_t leads[8];
+    olivia_character characters[8];
 } olivia_block;
 
 /* number 0: place is 0, and hertz is the frequency. Else the refusal's number and place, and hertz is 0. */

@@ -9,7 +9,12 @@
 enum { TONES = 64, MISSING = 65535 };
 
 static_assert(sizeof(olivia_answer) == 16, "four numbers of 32 bits");
-static_assert(offsetof(olivia_block, leads) == 16 && sizeof(olivia_block) == 48, "an answer and eight numbers");
+static_assert(offsetof(olivia_character, code) == 0 && offsetof(olivia_character, lead) == 4 &&
+                  offsetof(olivia_character, word) == 8 && offsetof(olivia_character, correlation) == 12 &&
+                  offsetof(olivia_character, next) == 16 && offsetof(olivia_character, next_correlation) == 20 &&
+                  sizeof(olivia_character) == 24,
+              "six numbers of 32 bits");
+static_assert(offsetof(olivia_block, characters) == 16 && sizeof(olivia_block) == 208, "an answer and eight records");
 static_assert(offsetof(olivia_hertz, hertz) == 8 && sizeof(olivia_hertz) == 16, "two numbers and a double");
 static_assert(offsetof(olivia_trial, replaced) == 48 && sizeof(olivia_trial) == 56, "three answers and two numbers");
 
@@ -29,8 +34,20 @@ static int is(olivia_answer answer, uint32_t number, uint32_t place, uint32_t le
     return answer.number == number && answer.place == place && answer.lead == lead && answer.count == count;
 }
 
+/* The first record is this one, and the other seven are empty. */
+static int tells(olivia_block heard, olivia_character record)
+{
+    olivia_character all[8];
+
+    memset(all, 0, sizeof all);
+    all[0] = record;
+    return memcmp(heard.characters, all, sizeof all) == 0;
+}
+
 static void blocks(void)
 {
+    static const olivia_character none = {0, 0, 0, 0, 0, 0}, clean = {0, 64, 0, 64, 1, 0};
+    static const olivia_character damaged = {0, 4, 0, 34, 1, 30}, negative = {64, 4, 0, -34, 1, -30};
     static const uint16_t first[8] = {0, 0, 1, 1, 0, 1, 1, 1};
     const uint8_t code = 0;
     uint16_t tones[TONES + 1];
@@ -42,14 +59,21 @@ static void blocks(void)
     check("mode 9", is(olivia_encode_block(9, &code, 1, tones, TONES), 1, 0, 0, 0));
 
     olivia_block heard = olivia_decode_block(1, 64, tones, TONES, codes, 2);
-    check("case 6 decoded", is(heard.answer, 0, 0, 0, 1) && heard.leads[0] == 64 && heard.leads[7] == 0);
+    check("case 6 decoded", is(heard.answer, 0, 0, 0, 1) && tells(heard, clean));
     check("case 6's code", codes[0] == 0 && codes[1] == 99);
     for (int t = 0; t < 30; t += 2)
         tones[t] ^= 1;
     heard = olivia_decode_block(1, 5, tones, TONES, codes, 1);
-    check("case 7 refused", is(heard.answer, 10, 0, 4, 0) && heard.leads[0] == 4);
+    check("case 7 refused", is(heard.answer, 10, 0, 4, 0) && tells(heard, damaged));
+    heard = olivia_decode_block(1, 4, tones, TONES, codes, 1);
+    check("case 7 accepted", is(heard.answer, 0, 0, 0, 1) && tells(heard, damaged) && codes[0] == 0);
+    for (int t = 0; t < TONES; t++)
+        tones[t] ^= 1;
+    heard = olivia_decode_block(1, 4, tones, TONES, codes, 1);
+    check("case 7 with every tone turned", is(heard.answer, 0, 0, 0, 1) && tells(heard, negative) && codes[0] == 64);
     tones[40] = 2;
-    check("tone 2 at mode 1", is(olivia_decode_block(1, 5, tones, TONES, codes, 1).answer, 8, 40, 0, 0));
+    heard = olivia_decode_block(1, 4, tones, TONES, codes, 1);
+    check("tone 2 at mode 1", is(heard.answer, 8, 40, 0, 0) && tells(heard, none));
 }
 
 static void messages(void)

@@ -57,8 +57,8 @@ call "$list" <<<fed
 check 'half a program where rt writes it' "$status $out $err $(calls)" "0 fed"$'\nEND 0  0'
 
 # What the program does decides the status.
-for case in '0 echo END 1' '1 echo REFUSED 7 0' '2 echo END 1; echo 1 0 0 64' '2 echo ENDED' '2 true' '2 echo END 1; exit 1' \
-    '2 echo END 1; kill -KILL $$' '2 echo REFUSED 7 0; kill -KILL $$'; do
+for case in '0 echo END 1' '1 echo REFUSED 7 0' '2 echo END 1; echo 1 0 0 64 0 64 1 0' '2 echo ENDED' '2 true' \
+    '2 echo END 1; exit 1' '2 echo END 1; kill -KILL $$' '2 echo REFUSED 7 0; kill -KILL $$'; do
     printf '#!/bin/sh\n%s\n' "${case#* }" >"$tree/target/front/list"
     call "$list" </dev/null
     check "a program: ${case#* }" "$status" "${case%% *}"

@@ -1,6 +1,6 @@
 # bin/list: its calls and statuses, reads and writes that fail, a live feed, signals, a terminal.
 # shellcheck shell=bash disable=SC2016,SC2154
-heading='BLOCK CHAR CODE LEAD'
+heading='BLOCK CHAR CODE LEAD WORD CORR NEXT CORR'
 example=$PWD/tests/list/example.in
 listing=$(<tests/list/example.out)
 
@@ -103,9 +103,9 @@ ended() {
 begin
 check 'a live feed: the heading' "$(answer)" "$heading"
 sed -n 1,2p "$example" >&"$feed"
-check 'a live feed: block 0' "$(answer)" '0 0 0 64'
+check 'a live feed: block 0' "$(answer)" '0 0 0 64 0 64 1 0'
 sed -n 2p "$example" >&"$feed"
-check 'a live feed: block 1' "$(answer)" '1 0 0 64'
+check 'a live feed: block 1' "$(answer)" '1 0 0 64 0 64 1 0'
 exec {feed}>&-
 check 'a live feed: its end' "$(answer)" 'END 2'
 ended 'a live feed' 0

@@ -10,11 +10,23 @@ pub struct Answer {
     pub count: u32,
 }
 
+/// The record of a character: its winning word and its runner-up, each with its signed correlation.
+#[repr(C)]
+#[derive(Clone, Copy, Debug, Default, PartialEq, Eq)]
+pub struct Character {
+    pub code: u32,
+    pub lead: u32,
+    pub word: u32,
+    pub correlation: i32,
+    pub next: u32,
+    pub next_correlation: i32,
+}
+
 #[repr(C)]
 #[derive(Clone, Copy, Debug, Default, PartialEq, Eq)]
 pub struct Block {
     pub answer: Answer,
-    pub leads: [u32; 8],
+    pub characters: [Character; 8],
 }
 
 #[repr(C)]

@@ -1,19 +1,20 @@
 //! Runs every group of tests, one line or more for each, and stops with status 1 at the first difference. With the argument
-//! `listing` it prints instead what document 01 says of the feed on standard input.
+//! `listing` it prints instead what documents 01 and 02 say of the feed on standard input.
 
 mod groups;
 
-use groups::{cases, compare, demand3, listing, sheet, vectors, words, Report};
+use groups::{cases, compare, demand3, listing, records, sheet, vectors, words, Report};
 use olivia_tests::paper;
 use std::io::{self, Read, Write};
 use std::process::ExitCode;
 
 type Group = (&'static str, fn() -> Report);
 
-const GROUPS: [Group; 7] = [
+const GROUPS: [Group; 8] = [
     ("vectors", vectors::run),
     ("words", words::run),
     ("sheet", sheet::run),
+    ("records", records::run),
     ("cases", cases::run),
     ("compare", compare::run),
     ("demand3", demand3::run),

@@ -79,6 +79,23 @@ pub fn damaged(random: &mut Random, b: usize, codes: &[u8], amount: Amount, aim:
     tones
 }
 
+/// A block of mode 1 with the first so many even tones turned.
+pub fn even_turned(tones: Vec<u16>, count: usize) -> Vec<u16> {
+    even_changed(tones, count, |tone| tone ^ 1)
+}
+
+/// A block with the first so many even tones missing.
+pub fn even_missing(tones: Vec<u16>, count: usize) -> Vec<u16> {
+    even_changed(tones, count, |_| paper::MISSING)
+}
+
+fn even_changed(mut tones: Vec<u16>, count: usize, change: fn(u16) -> u16) -> Vec<u16> {
+    for tone in tones.iter_mut().step_by(2).take(count) {
+        *tone = change(*tone);
+    }
+    tones
+}
+
 /// All places, first the 32 at which the bit of a code differs from that of a code with another word.
 fn towards_a_rival(random: &mut Random, code: u8) -> Vec<usize> {
     let other_word = random.between(1, 63) as u8;

@@ -2,7 +2,7 @@
 
 use super::damage::{damaged, edges, Aim, Amount, AIMS};
 use super::{expect_equal, lent::Lent, Report};
-use olivia_tests::library::{self, Answer, Block, Trial};
+use olivia_tests::library::{self, Answer, Block, Character, Trial};
 use olivia_tests::paper;
 use olivia_tests::random::Random;
 
@@ -147,14 +147,19 @@ impl Case {
         expect_equal("missing", self.amount.missing, trial.missing as usize)
     }
 
-    /// What the answer is, which has to be the one that its own leads call for.
+    /// What the answer is, which has to be the one that its own records call for.
     fn met(&self, block: &Block, codes: &mut Lent<u8>) -> Result<Met, String> {
-        let lowest = (0..self.b).find(|&q| (block.leads[q] as usize) < self.least_lead);
+        let (records, rest) = block.characters.split_at(self.b);
+        records.iter().try_for_each(expect_consistent)?;
+        let empty = [Character::default(); 8];
+        expect_equal("records past the mode's", &empty[self.b..], rest)?;
+        let is_unclear = |record: &Character| (record.lead as usize) < self.least_lead;
+        let lowest = records.iter().position(is_unclear);
         let wanted = match lowest {
             Some(q) => Answer {
                 number: 10,
                 place: q as u32,
-                lead: block.leads[q],
+                lead: records[q].lead,
                 count: 0,
             },
             None => Answer {
@@ -162,7 +167,12 @@ impl Case {
                 ..Answer::default()
             },
         };
-        expect_equal("answer to these leads", wanted, block.answer)?;
+        expect_equal("answer to these records", wanted, block.answer)?;
+        if lowest.is_none() {
+            let told: Vec<u32> = records.iter().map(|record| record.code).collect();
+            let given: Vec<u32> = codes.part().iter().map(|&code| code.into()).collect();
+            expect_equal("codes of these records", told, given)?;
+        }
         Ok(match lowest {
             Some(_) => Met::Unclear,
             None if codes.part() == self.text => Met::SameText,
@@ -181,4 +191,15 @@ impl Case {
         }
         Ok(())
     }
+}
+
+/// A record names two words, "the lead must equal the difference of the two magnitudes in it", and its code is that of its winner.
+fn expect_consistent(record: &Character) -> Result<(), String> {
+    let words = record.word < 64 && record.next < 64 && record.word != record.next;
+    expect_equal("two words in a record", true, words)?;
+    let rival = record.next_correlation.unsigned_abs();
+    let lead = record.correlation.unsigned_abs().checked_sub(rival);
+    expect_equal("lead in a record", lead, Some(record.lead))?;
+    let turned = if record.correlation < 0 { 64 } else { 0 };
+    expect_equal("code in a record", record.word + turned, record.code)
 }

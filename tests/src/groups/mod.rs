@@ -4,14 +4,16 @@ pub mod cases;
 pub mod compare;
 mod damage;
 pub mod demand3;
+mod heard;
 mod lent;
 pub mod listing;
+pub mod records;
 pub mod sheet;
 pub mod vectors;
 pub mod words;
 
-use olivia_tests::library::Answer;
-use olivia_tests::paper::Refusal;
+use olivia_tests::library::{Answer, Block, Character};
+use olivia_tests::paper::{self, Refusal};
 
 /// The lines that a group prints, or the first difference: the inputs, what was wanted, what was given.
 pub type Report = Result<String, String>;
@@ -37,10 +39,32 @@ fn written<T>(said: &Result<Vec<T>, Refusal>) -> &[T] {
     said.as_deref().unwrap_or(&[])
 }
 
-/// All eight leads, those past the mode's 0.
-fn eight(leads: &[u32]) -> [u32; 8] {
-    let mut all = [0; 8];
-    all[..leads.len()].copy_from_slice(leads);
+/// The library's block that stands for what the paper says of one.
+fn block_of(said: &paper::Heard) -> Block {
+    let records = said.characters.iter().map(record_of);
+    Block {
+        answer: answer_of(&said.text),
+        characters: eight(records),
+    }
+}
+
+fn record_of(character: &paper::Character) -> Character {
+    Character {
+        code: character.code.into(),
+        lead: character.lead,
+        word: character.word as u32,
+        correlation: character.correlation,
+        next: character.next as u32,
+        next_correlation: character.next_correlation,
+    }
+}
+
+/// All eight records, those past the mode's empty.
+fn eight(records: impl Iterator<Item = Character>) -> [Character; 8] {
+    let mut all = [Character::default(); 8];
+    for (place, record) in records.enumerate() {
+        all[place] = record;
+    }
     all
 }
 

@@ -1,7 +1,9 @@
 //! The cases of document 01's bench sheet that speak of blocks, messages and frequencies, by the library and by the paper.
 
-use super::{answer_of, eight, expect_equal, written, Report};
-use olivia_tests::library::{self, Answer, Block, Hertz};
+use super::damage::{even_missing, even_turned};
+use super::heard::{expect_clear, expect_unclear};
+use super::{answer_of, expect_equal, written, Report};
+use olivia_tests::library::{self, Answer, Hertz};
 use olivia_tests::paper::{self, MISSING};
 
 /// In the order of the sheet, from case 1.
@@ -11,18 +13,18 @@ const CASES: [fn() -> Result<(), String>; 14] = [
     || expect_first(1, &[1], &[1, 0, 0, 1, 1, 1, 0, 1]),
     || expect_first(2, &[0, 0], &[3, 1, 1, 2, 0, 2]),
     || expect_symbol(2, 3).and_then(|()| expect_symbol(7, 4)),
-    || expect_heard(64, &turned(0)?, clear(0, 64)),
+    || expect_clear(1, 64, &turned(0)?, &[[0, 64, 0, 64, 1, 0]]),
     || {
-        expect_heard(4, &turned(15)?, clear(0, 4))?;
-        expect_heard(5, &turned(15)?, unclear(4))
+        expect_clear(1, 4, &turned(15)?, &[[0, 4, 0, 34, 1, 30]])?;
+        expect_unclear(1, 5, &turned(15)?, 0, &[[0, 4, 0, 34, 1, 30]])
     },
-    || expect_heard(1, &turned(16)?, unclear(0)),
+    || expect_unclear(1, 1, &turned(16)?, 0, &[[0, 0, 0, 32, 1, 32]]),
     || {
-        expect_heard(1, &missing(31)?, clear(0, 2))?;
-        expect_heard(1, &missing(32)?, unclear(0))
+        expect_clear(1, 1, &missing(31)?, &[[0, 2, 0, 33, 1, 31]])?;
+        expect_unclear(1, 1, &missing(32)?, 0, &[[0, 0, 0, 32, 1, 32]])
     },
-    || expect_heard(64, &turned(32)?, clear(1, 64)),
-    || expect_heard(1, &[MISSING; 64], unclear(0)),
+    || expect_clear(1, 64, &turned(32)?, &[[1, 64, 1, 64, 0, 0]]),
+    || expect_unclear(1, 1, &[MISSING; 64], 0, &[[0, 0, 0, 0, 1, 0]]),
     || expect_hertz(0, 1015.625).and_then(|()| expect_hertz(31, 1984.375)),
     longest_messages,
     || {
@@ -94,52 +96,14 @@ fn expect_symbol(symbol: u16, tone: u16) -> Result<(), String> {
     Ok(())
 }
 
-/// Case 1 whole, with the first so many even tones changed.
-fn even(count: usize, change: fn(u16) -> u16) -> Result<Vec<u16>, String> {
-    let mut tones = encoded(1, &[0])?;
-    for tone in tones.iter_mut().step_by(2).take(count) {
-        *tone = change(*tone);
-    }
-    Ok(tones)
-}
-
+/// Case 1 whole, with the first so many even tones turned.
 fn turned(count: usize) -> Result<Vec<u16>, String> {
-    even(count, |tone| 1 - tone)
+    Ok(even_turned(encoded(1, &[0])?, count))
 }
 
+/// The same with so many missing.
 fn missing(count: usize) -> Result<Vec<u16>, String> {
-    even(count, |_| MISSING)
-}
-
-/// What is heard of one character's block, and its code or 255.
-type Heard = (Block, u8);
-
-fn clear(code: u8, lead: u32) -> Heard {
-    let answer = accepted(1);
-    let leads = eight(&[lead]);
-    (Block { answer, leads }, code)
-}
-
-fn unclear(lead: u32) -> Heard {
-    let answer = Answer {
-        lead,
-        ..refused(10, 0)
-    };
-    let leads = eight(&[lead]);
-    (Block { answer, leads }, 255)
-}
-
-fn expect_heard(least_lead: u32, tones: &[u16], wanted: Heard) -> Result<(), String> {
-    let mut codes = [255];
-    let given = library::decode_block(1, least_lead, tones, &mut codes);
-    expect_equal("heard", wanted, (given, codes[0]))?;
-    let said = paper::decode_block(1, least_lead, tones, codes.len());
-    let block = Block {
-        answer: answer_of(&said.text),
-        leads: eight(&said.leads),
-    };
-    let code = written(&said.text).first().copied().unwrap_or(255);
-    expect_equal("heard, by the paper", wanted, (block, code))
+    Ok(even_missing(encoded(1, &[0])?, count))
 }
 
 fn expect_hertz(tone: u16, hertz: f64) -> Result<(), String> {

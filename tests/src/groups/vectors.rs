@@ -1,7 +1,7 @@
 //! Blocks that another Olivia program made: the library and the paper encode and decode each.
 
-use super::{answer_of, eight, expect_equal, lent::Lent, Report};
-use olivia_tests::library::{self, Block};
+use super::{answer_of, block_of, expect_equal, lent::Lent, Report};
+use olivia_tests::library;
 use olivia_tests::paper;
 
 const BLOCKS: &str = include_str!("../../data/fldigi-blocks.txt");
@@ -58,22 +58,31 @@ fn encoded(vector: &Vector) -> Result<usize, String> {
 }
 
 fn decoded(vector: &Vector, least_lead: u32) -> Result<usize, String> {
-    let leads = vec![64; vector.codes.len()];
+    let room = vector.codes.len();
     let wanted = paper::Heard {
-        leads: leads.clone(),
+        characters: vector.codes.iter().map(clean).collect(),
         text: Ok(vector.codes.clone()),
     };
-    let said = paper::decode_block(vector.mode, least_lead, &vector.tones, leads.len());
+    let said = paper::decode_block(vector.mode, least_lead, &vector.tones, room);
     expect_equal("decode, by the paper", &wanted, &said)?;
     let mut tones = Lent::input(&vector.tones);
-    let mut codes = Lent::output(leads.len());
+    let mut codes = Lent::output(room);
     let given = library::decode_block(vector.mode, least_lead, tones.part(), codes.part());
-    let answer = Block {
-        answer: answer_of(&wanted.text),
-        leads: eight(&leads),
-    };
-    expect_equal("decode", answer, given)?;
+    expect_equal("decode", block_of(&wanted), given)?;
     codes.expect("codes", &vector.codes)?;
     tones.expect("tones handed in", &vector.tones)?;
     Ok(2)
+}
+
+/// The record of a character of which no bit is lost: the other 63 correlations are 0, and the lowest-numbered is the runner-up.
+fn clean(code: &u8) -> paper::Character {
+    let word = usize::from(code % 64);
+    paper::Character {
+        code: *code,
+        lead: 64,
+        word,
+        correlation: if *code < 64 { 64 } else { -64 },
+        next: if word == 0 { 1 } else { 0 },
+        next_correlation: 0,
+    }
 }

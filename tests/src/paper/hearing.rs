@@ -23,7 +23,6 @@ fn counts_of(b: usize, symbols: &[Option<u16>], q: usize) -> Vec<i32> {
     (0..SYMBOLS).map(count_at).collect()
 }
 
-/// "The 64 correlations of one character are the sums over t of that count times the sign of each word."
 fn correlation(counts: &[i32], c: usize) -> i32 {
     (0..SYMBOLS)
         .map(|t| {
@@ -36,46 +35,79 @@ fn correlation(counts: &[i32], c: usize) -> i32 {
         .sum()
 }
 
-struct Decision {
-    code: u8,
-    lead: u32,
+/// "The 64 correlations of one character are the sums over t of that count times the sign of each word": those of each of the b
+/// characters.
+pub fn correlations(b: usize, tones: &[u16]) -> Vec<Vec<i32>> {
+    let symbols: Vec<Option<u16>> = tones
+        .iter()
+        .map(|&tone| (tone != MISSING).then(|| symbol_of(tone)))
+        .collect();
+    let of_character = |q: usize| {
+        let counts = counts_of(b, &symbols, q);
+        (0..64).map(|c| correlation(&counts, c)).collect()
+    };
+    (0..b).map(of_character).collect()
+}
+
+/// "Beside every character, the winning word and the runner-up word, each with its signed correlation" (document 02, order 5).
+#[derive(Clone, Copy, Debug, PartialEq, Eq)]
+pub struct Character {
+    pub code: u8,
+    pub lead: u32,
+    pub word: usize,
+    pub correlation: i32,
+    pub next: usize,
+    pub next_correlation: i32,
 }
 
 /// "The best is the largest magnitude. The lead is the best magnitude minus the largest magnitude among the other 63 words. Its
-/// code is the word's number, plus 64 if the correlation is negative."
-fn decide(counts: &[i32]) -> Decision {
-    let correlations: Vec<i32> = (0..64).map(|c| correlation(counts, c)).collect();
+/// code is the word's number, plus 64 if the correlation is negative." In document 02, order 5: "The runner-up is the
+/// lowest-numbered word among the largest of the other 63 magnitudes." "For an unclear character the winner is the lowest-numbered
+/// best word."
+fn decide(correlations: &[i32]) -> Character {
     let magnitude = |c: usize| correlations[c].unsigned_abs();
-    let best = (0..64).max_by_key(|&c| magnitude(c)).expect("64 words");
-    let others = (0..64).filter(|&c| c != best);
-    let rival = others.map(magnitude).max().expect("63 words");
-    let turned = if correlations[best] < 0 { 64 } else { 0 };
-    Decision {
-        code: best as u8 + turned,
-        lead: magnitude(best) - rival,
+    let best = (0..64).map(magnitude).max().expect("64 words");
+    let is_best = |&c: &usize| magnitude(c) == best;
+    let word = (0..64).find(is_best).expect("a best word");
+    let others: Vec<usize> = (0..64).filter(|&c| c != word).collect();
+    let rival = others
+        .iter()
+        .map(|&c| magnitude(c))
+        .max()
+        .expect("63 words");
+    let is_rival = |&c: &usize| magnitude(c) == rival;
+    let next = others.into_iter().find(is_rival).expect("a runner-up");
+    let turned = if correlations[word] < 0 { 64 } else { 0 };
+    Character {
+        code: word as u8 + turned,
+        lead: best - rival,
+        word,
+        correlation: correlations[word],
+        next,
+        next_correlation: correlations[next],
     }
 }
 
-/// What is heard of a block: its b leads (none if it was refused before they are known), and its codes or the refusal.
+/// What is heard of a block: the records of its b characters (none if it was refused before they are decided), and its codes or the
+/// refusal. "A block's answer carries the record of all b characters, also when it is refused with 10" (document 02, order 5).
 #[derive(Clone, Debug, PartialEq, Eq)]
 pub struct Heard {
-    pub leads: Vec<u32>,
+    pub characters: Vec<Character>,
     pub text: Result<Vec<u8>, Refusal>,
 }
 
 /// "A character is clear if its lead is at least m. A block is accepted if all b characters are clear."
 pub fn hear(b: usize, least_lead: u32, tones: &[u16]) -> Heard {
-    let symbols: Vec<Option<u16>> = tones
+    let characters: Vec<Character> = correlations(b, tones)
         .iter()
-        .map(|&tone| (tone != MISSING).then(|| symbol_of(tone)))
+        .map(|correlations| decide(correlations))
         .collect();
-    let characters: Vec<Decision> = (0..b).map(|q| decide(&counts_of(b, &symbols, q))).collect();
-    let leads: Vec<u32> = characters.iter().map(|character| character.lead).collect();
-    let text = match leads.iter().position(|&lead| lead < least_lead) {
-        Some(place) => Err(unclear(place, leads[place])),
+    let is_unclear = |character: &Character| character.lead < least_lead;
+    let text = match characters.iter().position(is_unclear) {
+        Some(place) => Err(unclear(place, characters[place].lead)),
         None => Ok(characters.iter().map(|character| character.code).collect()),
     };
-    Heard { leads, text }
+    Heard { characters, text }
 }
 
 /// "When hearing: 1, 2, 7, 9, 8, 10."
@@ -91,7 +123,7 @@ pub fn decode_block(mode: u32, least_lead: u32, tones: &[u16], room: usize) -> H
     match checked() {
         Ok(b) => hear(b, least_lead, tones),
         Err(refusal) => Heard {
-            leads: vec![],
+            characters: vec![],
             text: Err(refusal),
         },
     }

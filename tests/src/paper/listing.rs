@@ -1,6 +1,6 @@
-//! The listing program, at the end of the bench sheet.
+//! The listing program, at the end of the bench sheet, and in order 5 of document 02.
 
-use super::hearing::decode_block;
+use super::hearing::{decode_block, Character};
 use super::refusals::{check_lead, checked_mode, Refusal};
 use super::MISSING;
 
@@ -12,9 +12,10 @@ enum Stop {
 }
 
 /// "The heading is always printed first." "END counts blocks read." "Another refusal prints REFUSED, number, place, one space
-/// between, and stops without END; unreadable text prints REFUSED INPUT and the line number from 1, and stops likewise."
+/// between, and stops without END; unreadable text prints REFUSED INPUT and the line number from 1, and stops likewise." In document
+/// 02: "The listing's heading gains ` WORD CORR NEXT CORR`."
 pub fn listed(input: &[u8]) -> Vec<u8> {
-    let mut printed = "BLOCK CHAR CODE LEAD\n".to_string();
+    let mut printed = "BLOCK CHAR CODE LEAD WORD CORR NEXT CORR\n".to_string();
     let last = match list_blocks(input, &mut printed) {
         Ok(blocks) => format!("END {blocks}\n"),
         Err(Stop::Refused(refusal)) => format!("REFUSED {} {}\n", refusal.number, refusal.place),
@@ -88,19 +89,28 @@ fn number(word: &[u8]) -> Option<u16> {
 }
 
 /// "Each line is block number, character's place in it, code, lead; a block refused by 10 gives one line with its place, `-` and
-/// lead."
+/// lead." In document 02: "Every character line, and the line of a block refused with 10 for its lowest unclear character, ends in
+/// these four numbers, a minus before a negative one": winning word and runner-up word, each with its signed correlation.
 fn block_lines(block: usize, mode: u32, least_lead: u32, tones: &[u16]) -> Result<String, Refusal> {
     let heard = decode_block(mode, least_lead, tones, mode as usize);
-    match heard.text {
+    let line = |place: usize, code: &str| {
+        let Character {
+            lead,
+            word,
+            correlation,
+            next,
+            next_correlation,
+            ..
+        } = heard.characters[place];
+        format!("{block} {place} {code} {lead} {word} {correlation} {next} {next_correlation}\n")
+    };
+    match &heard.text {
         Ok(codes) => Ok(codes
             .iter()
-            .zip(heard.leads)
             .enumerate()
-            .map(|(place, (code, lead))| format!("{block} {place} {code} {lead}\n"))
+            .map(|(place, code)| line(place, &code.to_string()))
             .collect()),
-        Err(refusal) if refusal.number == 10 => {
-            Ok(format!("{block} {} - {}\n", refusal.place, refusal.lead))
-        }
-        Err(refusal) => Err(refusal),
+        Err(refusal) if refusal.number == 10 => Ok(line(refusal.place, "-")),
+        Err(refusal) => Err(*refusal),
     }
 }

@@ -1,5 +1,5 @@
-//! Document 01 ("Olivia text link: from characters to tones and back") written down a second time, to hold the library and the
-//! listing program against.
+//! Document 01 ("Olivia text link: from characters to tones and back"), with order 5 of document 02, written down a second time, to
+//! hold the library and the listing program against.
 //!
 //! Each function quotes the rule that it is. Nothing here is fast or shared with the library: a correlation is a sum over 64
 //! places, and the symbol of a tone is searched for. A function hands back what an entry has to write; `room` is the length of the
@@ -15,7 +15,7 @@ mod sending;
 
 pub use demand::{trial, Trial};
 pub use frequencies::frequency;
-pub use hearing::{decode_block, symbol_of, Heard};
+pub use hearing::{correlations, decode_block, symbol_of, Character, Heard};
 pub use listing::listed;
 pub use messages::{decode_message, encode_message};
 pub use refusals::Refusal;

@@ -1,7 +1,8 @@
 //! Document 01's bench sheet, cases 1 to 11, and blocks that break several limits at once.
 
+use super::super::damage::{even_missing, even_turned};
 use super::{answered, blocks, kept_from, marked, NO_TONE};
-use olivia_tests::library::{self, Answer};
+use olivia_tests::library::{self, Answer, Character};
 use olivia_tests::paper::MISSING;
 
 /// Cells of an output of tones, of which a call is lent the first `room`.
@@ -141,21 +142,14 @@ fn trials() -> Vec<String> {
         .into()
 }
 
-/// Case 1 with the first so many even tones changed.
-fn even(count: usize, change: fn(u16) -> u16) -> Vec<u16> {
-    let mut tones = blocks(1, &[0]);
-    for tone in tones.iter_mut().step_by(2).take(count) {
-        *tone = change(*tone);
-    }
-    tones
-}
-
+/// Case 1 with the first so many even tones turned.
 fn turned(count: usize) -> Vec<u16> {
-    even(count, |tone| tone ^ 1)
+    even_turned(blocks(1, &[0]), count)
 }
 
+/// The same with so many missing.
 fn missing(count: usize) -> Vec<u16> {
-    even(count, |_| MISSING)
+    even_missing(blocks(1, &[0]), count)
 }
 
 /// A block of mode 3, with other tones at some places.
@@ -176,7 +170,7 @@ fn encode(name: &str, mode: u32, codes: &[u8], room: usize, shown: usize) -> Str
 fn decode(name: &str, mode: u32, least_lead: u32, tones: &[u16], room: usize) -> String {
     let mut codes = marked(CODES);
     let block = library::decode_block(mode, least_lead, tones, &mut codes[..room]);
-    format!("{name} {}", heard(block.answer, block.leads, &codes))
+    format!("{name} {}", heard(block.answer, &block.characters, &codes))
 }
 
 /// The three calls of a trial on one line, with r and u.
@@ -193,14 +187,15 @@ fn trial(name: &str, least_lead: u32, code: u8, tones_heard: &[u16]) -> String {
         &mut first,
         &mut second,
     );
-    // The library hands out no leads of a trial.
-    let leads = |tones: &[u16]| library::decode_block(1, least_lead, tones, &mut [0; CODES]).leads;
-    let first_leads = leads(&tones[..kept_from(&tones)]);
+    // The library hands out no records of a trial.
+    let records =
+        |tones: &[u16]| library::decode_block(1, least_lead, tones, &mut [0; CODES]).characters;
+    let first_records = records(&tones[..kept_from(&tones)]);
     format!(
         "{name} {}, first {}, second {}, replaced {} missing {}",
         sent(trial.encoded, &tones, 8),
-        heard(trial.first, first_leads, &first),
-        heard(trial.second, leads(tones_heard), &second),
+        heard(trial.first, &first_records, &first),
+        heard(trial.second, &records(tones_heard), &second),
         trial.replaced,
         trial.missing
     )
@@ -211,15 +206,30 @@ fn sent(answer: Answer, tones: &[u16], shown: usize) -> String {
         .iter()
         .map(|tone| format!(" {tone}"))
         .collect();
-    answered(answer, &format!(" tones{first}"), tones)
+    answered(answer, &format!(" tones{first}"), "", tones)
 }
 
-fn heard(answer: Answer, leads: [u32; 8], codes: &[u8]) -> String {
-    let characters: String = codes
+/// An answer with each code that was written and its record, or with the record of the unclear character.
+fn heard(answer: Answer, records: &[Character; 8], codes: &[u8]) -> String {
+    let written: String = codes
         .iter()
-        .zip(leads)
+        .zip(records)
         .take(answer.count as usize)
-        .map(|(code, lead)| format!(" code {code} lead {lead}"))
+        .map(|(&code, record)| shown(code.into(), record))
         .collect();
-    answered(answer, &characters, codes)
+    let unclear = match answer.number {
+        10 => {
+            let record = &records[answer.place as usize];
+            shown(record.code, record)
+        }
+        _ => String::new(),
+    };
+    answered(answer, &written, &unclear, codes)
+}
+
+fn shown(code: u32, record: &Character) -> String {
+    format!(
+        " code {code} lead {} word {} corr {} next {} corr {}",
+        record.lead, record.word, record.correlation, record.next, record.next_correlation
+    )
 }

@@ -201,7 +201,7 @@ fn encode(mode: u32, codes: &[u8], room: usize) -> (String, Vec<u16>) {
     let mut tones = marked(room);
     let answer = library::encode_message(mode, codes, &mut tones);
     let written = &tones[..kept_from(&tones)];
-    let answered = answered(answer, &format!(" sum {}", sum(written)), &tones);
+    let answered = answered(answer, &format!(" sum {}", sum(written)), "", &tones);
     let line = format!(
         "encode mode {mode} codes {} room {room}: {answered}",
         codes.len()
@@ -212,7 +212,8 @@ fn encode(mode: u32, codes: &[u8], room: usize) -> (String, Vec<u16>) {
 fn decode(mode: u32, least_lead: u32, tones: &[u16], room: usize) -> String {
     let mut codes = marked(room);
     let answer = library::decode_message(mode, least_lead, tones, &mut codes);
-    let answered = answered(answer, &format!(" as sent to {}", agreed(&codes)), &codes);
+    let written = format!(" as sent to {}", agreed(&codes));
+    let answered = answered(answer, &written, "", &codes);
     let count = tones.len();
     format!("decode mode {mode} lead {least_lead} tones {count} room {room}: {answered}")
 }

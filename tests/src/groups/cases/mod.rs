@@ -63,12 +63,12 @@ fn kept_from<T: Cell>(output: &[T]) -> usize {
     last.map_or(0, |place| place + 1)
 }
 
-/// An answer in words, with what was written if it is acceptance.
-fn answered<T: Cell>(answer: Answer, written: &str, output: &[T]) -> String {
+/// An answer in words, with what was written if it is acceptance, else with what is told of the refusal.
+fn answered<T: Cell>(answer: Answer, written: &str, told: &str, output: &[T]) -> String {
     let (place, lead, kept) = (answer.place, answer.lead, kept_from(output));
     match answer.number {
         0 => format!("accepted {}{written} kept from {kept}", answer.count),
-        number => format!("refused {number} place {place} lead {lead} kept from {kept}"),
+        number => format!("refused {number} place {place} lead {lead}{told} kept from {kept}"),
     }
 }
 

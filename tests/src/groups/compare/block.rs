@@ -1,9 +1,10 @@
 //! Blocks encoded and decoded.
 
 use super::super::lent::Lent;
-use super::super::{answer_of, eight, expect_equal, written};
+use super::super::{answer_of, block_of, expect_equal, written};
 use super::draw::{self, Wrong};
-use olivia_tests::library::{self, Block};
+use super::{records, Met};
+use olivia_tests::library;
 use olivia_tests::paper;
 use olivia_tests::random::Random;
 
@@ -65,7 +66,7 @@ impl super::Case for Encode {
         self.mode
     }
 
-    fn compare(&self) -> Result<Vec<u32>, String> {
+    fn compare(&self) -> Result<Met, String> {
         let mut codes = Lent::input(&self.codes);
         let mut tones = Lent::output(self.room);
         let given = library::encode_block(self.mode, codes.part(), tones.part());
@@ -73,7 +74,7 @@ impl super::Case for Encode {
         expect_equal("answer", answer_of(&said), given)?;
         tones.expect("tones", written(&said))?;
         codes.expect("codes handed in", &self.codes)?;
-        Ok(vec![given.number])
+        Ok(Met::numbers(&[given.number]))
     }
 }
 
@@ -106,18 +107,17 @@ impl super::Case for Decode {
         self.mode
     }
 
-    fn compare(&self) -> Result<Vec<u32>, String> {
+    fn compare(&self) -> Result<Met, String> {
         let mut tones = Lent::input(&self.tones);
         let mut codes = Lent::output(self.room);
         let given = library::decode_block(self.mode, self.least_lead, tones.part(), codes.part());
         let said = paper::decode_block(self.mode, self.least_lead, &self.tones, self.room);
-        let wanted = Block {
-            answer: answer_of(&said.text),
-            leads: eight(&said.leads),
-        };
-        expect_equal("answer", wanted, given)?;
+        expect_equal("answer", block_of(&said), given)?;
         codes.expect("codes", written(&said.text))?;
         tones.expect("tones handed in", &self.tones)?;
-        Ok(vec![given.answer.number])
+        Ok(Met {
+            numbers: vec![given.answer.number],
+            records: records::kinds(&said, &self.tones),
+        })
     }
 }

@@ -2,6 +2,7 @@
 
 use super::super::expect_equal;
 use super::draw::{self, Wrong};
+use super::Met;
 use olivia_tests::library;
 use olivia_tests::paper;
 use olivia_tests::random::Random;
@@ -40,7 +41,7 @@ impl super::Case for Frequency {
         self.mode
     }
 
-    fn compare(&self) -> Result<Vec<u32>, String> {
+    fn compare(&self) -> Result<Met, String> {
         let given = library::frequency(self.mode, self.width, self.centre, self.tone);
         let said = paper::frequency(self.mode, self.width, self.centre, self.tone);
         let wanted = match said {
@@ -52,7 +53,7 @@ impl super::Case for Frequency {
             wanted,
             (given.number, given.place, given.hertz.to_bits()),
         )?;
-        Ok(vec![given.number])
+        Ok(Met::numbers(&[given.number]))
     }
 }
 

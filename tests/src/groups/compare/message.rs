@@ -3,6 +3,7 @@
 use super::super::lent::Lent;
 use super::super::{answer_of, expect_equal, written};
 use super::draw::{self, Wrong};
+use super::Met;
 use olivia_tests::library;
 use olivia_tests::paper::{self, block_count, block_tones, LONGEST_MESSAGE, SYMBOLS};
 use olivia_tests::random::Random;
@@ -59,7 +60,7 @@ impl super::Case for Encode {
         self.mode
     }
 
-    fn compare(&self) -> Result<Vec<u32>, String> {
+    fn compare(&self) -> Result<Met, String> {
         let mut text = Lent::input(&self.text);
         let mut tones = Lent::output(self.room);
         let given = library::encode_message(self.mode, text.part(), tones.part());
@@ -67,7 +68,7 @@ impl super::Case for Encode {
         expect_equal("answer", answer_of(&said), given)?;
         tones.expect("tones", written(&said))?;
         text.expect("text handed in", &self.text)?;
-        Ok(vec![given.number])
+        Ok(Met::numbers(&[given.number]))
     }
 }
 
@@ -151,7 +152,7 @@ impl super::Case for Decode {
         self.mode
     }
 
-    fn compare(&self) -> Result<Vec<u32>, String> {
+    fn compare(&self) -> Result<Met, String> {
         let mut tones = Lent::input(&self.tones);
         let mut text = Lent::output(self.room);
         let given = library::decode_message(self.mode, self.least_lead, tones.part(), text.part());
@@ -159,6 +160,6 @@ impl super::Case for Decode {
         expect_equal("answer", answer_of(&said), given)?;
         text.expect("text", written(&said))?;
         tones.expect("tones handed in", &self.tones)?;
-        Ok(vec![given.number])
+        Ok(Met::numbers(&[given.number]))
     }
 }

@@ -4,11 +4,13 @@ mod block;
 pub mod draw;
 mod frequency;
 mod message;
+mod records;
 mod tally;
 mod trial;
 
 use super::Report;
 use olivia_tests::random::Random;
+use records::Kinds;
 use std::fmt::Debug;
 use tally::Tally;
 
@@ -25,8 +27,23 @@ trait Case: Debug {
 
     fn mode(&self) -> u32;
 
-    /// Makes the call, and answers with the numbers that both sides gave.
-    fn compare(&self) -> Result<Vec<u32>, String>;
+    /// Makes the call, and answers with what both sides gave.
+    fn compare(&self) -> Result<Met, String>;
+}
+
+/// What both sides gave: the numbers of their answers, and the kinds of each record in them.
+struct Met {
+    numbers: Vec<u32>,
+    records: Vec<Kinds>,
+}
+
+impl Met {
+    fn numbers(numbers: &[u32]) -> Self {
+        Met {
+            numbers: numbers.to_vec(),
+            records: vec![],
+        }
+    }
 }
 
 pub fn run() -> Report {
@@ -39,6 +56,7 @@ pub fn run() -> Report {
     many::<frequency::Frequency>(&mut random, &mut tally, 60_000)?;
     many::<trial::Trial>(&mut random, &mut tally, 40_000)?;
     tally.expect_every_refusal()?;
+    tally.expect_every_kind()?;
     Ok(tally.lines())
 }
 
@@ -46,10 +64,9 @@ fn many<C: Case>(random: &mut Random, tally: &mut Tally, cases: usize) -> Result
     let row = tally.open::<C>();
     for _ in 0..cases {
         let case = C::draw(random);
-        let numbers = case.compare();
-        let numbers =
-            numbers.map_err(|difference| format!("{} {case:?}: {difference}", C::FUNCTION))?;
-        row.add(case.mode(), &numbers);
+        let met = case.compare();
+        let met = met.map_err(|difference| format!("{} {case:?}: {difference}", C::FUNCTION))?;
+        row.add(case.mode(), &met);
     }
     row.expect_all()
 }

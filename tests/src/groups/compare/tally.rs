@@ -1,10 +1,14 @@
-//! How often each function, mode and refusal was met.
+//! How often each function, mode and refusal, and each kind of record was met.
 
-use super::Case;
+use super::records::KINDS;
+use super::{Case, Met};
 use std::collections::BTreeMap;
 
 /// Modes that every function has to meet.
 pub const MODES: [u32; 13] = [1, 2, 3, 4, 5, 6, 7, 8, 0, 9, 16, 24, u32::MAX];
+
+/// Each kind of record is met at least so often.
+const OFTEN: usize = 100;
 
 #[derive(Default)]
 pub struct Tally {
@@ -18,6 +22,8 @@ pub struct Row {
     cases: usize,
     by_mode: BTreeMap<u32, usize>,
     by_number: BTreeMap<u32, usize>,
+    records: usize,
+    by_kind: [usize; KINDS.len()],
 }
 
 impl Tally {
@@ -28,6 +34,8 @@ impl Tally {
             cases: 0,
             by_mode: BTreeMap::new(),
             by_number: BTreeMap::new(),
+            records: 0,
+            by_kind: [0; KINDS.len()],
         });
         self.rows.last_mut().expect("the row just opened")
     }
@@ -46,6 +54,21 @@ impl Tally {
         }
     }
 
+    fn records(&self, kind: usize) -> usize {
+        self.rows.iter().map(|row| row.by_kind[kind]).sum()
+    }
+
+    pub fn expect_every_kind(&self) -> Result<(), String> {
+        match (0..KINDS.len()).find(|&kind| self.records(kind) < OFTEN) {
+            Some(kind) => Err(format!(
+                "records with {}: {}",
+                KINDS[kind],
+                self.records(kind)
+            )),
+            None => Ok(()),
+        }
+    }
+
     pub fn lines(&self) -> String {
         let cases: usize = self.rows.iter().map(|row| row.cases).sum();
         let numbers: Vec<String> = (0..=12)
@@ -60,16 +83,27 @@ impl Tally {
                 row.numbers()
             );
         }
-        lines
+        let kinds = KINDS.iter().enumerate();
+        let kinds: Vec<String> = kinds
+            .map(|(kind, name)| format!("{name}: {}", self.records(kind)))
+            .collect();
+        let records: usize = self.rows.iter().map(|row| row.records).sum();
+        lines + &format!("\n  {records} records, with {}", kinds.join(", "))
     }
 }
 
 impl Row {
-    pub fn add(&mut self, mode: u32, numbers: &[u32]) {
+    pub fn add(&mut self, mode: u32, met: &Met) {
         self.cases += 1;
         *self.by_mode.entry(mode).or_default() += 1;
-        for &number in numbers {
+        for &number in &met.numbers {
             *self.by_number.entry(number).or_default() += 1;
+        }
+        for kinds in &met.records {
+            self.records += 1;
+            for (count, &is_kind) in self.by_kind.iter_mut().zip(kinds) {
+                *count += usize::from(is_kind);
+            }
         }
     }
 

@@ -4,6 +4,7 @@ use super::super::lent::Lent;
 use super::super::{answer_of, expect_equal, written};
 use super::block::{codes_to_send, tones_to_hear};
 use super::draw::{self, Wrong};
+use super::Met;
 use olivia_tests::library;
 use olivia_tests::paper;
 use olivia_tests::random::Random;
@@ -49,7 +50,7 @@ impl super::Case for Trial {
         self.mode
     }
 
-    fn compare(&self) -> Result<Vec<u32>, String> {
+    fn compare(&self) -> Result<Met, String> {
         let mut text = Lent::input(&self.text);
         let mut heard = Lent::input(&self.heard);
         let mut tones = Lent::output(self.rooms[0]);
@@ -77,11 +78,11 @@ impl super::Case for Trial {
         second.expect("second text", written(&said.second))?;
         text.expect("text handed in", &self.text)?;
         heard.expect("tones handed in", &self.heard)?;
-        Ok(vec![
+        Ok(Met::numbers(&[
             given.encoded.number,
             given.first.number,
             given.second.number,
-        ])
+        ]))
     }
 }
 

@@ -1,6 +1,6 @@
 //! How often each kind of input and of listing was met.
 
-const KINDS: [&str; 12] = [
+const KINDS: [&str; 14] = [
     "END",
     "REFUSED 1",
     "REFUSED 2",
@@ -10,6 +10,8 @@ const KINDS: [&str; 12] = [
     "REFUSED INPUT later",
     "lines of clear characters",
     "lines of unclear blocks",
+    "lines with a negative winner",
+    "lines with a negative runner-up",
     "inputs over 4,096 bytes",
     "inputs over 8,192 bytes",
     "inputs without a last line feed",
@@ -29,6 +31,12 @@ impl Tally {
         self.inputs += 1;
         for line in String::from_utf8_lossy(listing).lines().skip(1) {
             self.count(kind(line));
+            if is_negative(line, 5) {
+                self.count("lines with a negative winner");
+            }
+            if is_negative(line, 7) {
+                self.count("lines with a negative runner-up");
+            }
         }
         if input.len() > 4096 {
             self.count("inputs over 4,096 bytes");
@@ -70,7 +78,14 @@ fn kind(line: &str) -> &str {
         ["REFUSED", "INPUT", _] => "REFUSED INPUT later",
         ["REFUSED", number, _] => &line[.."REFUSED ".len() + number.len()],
         ["END", _] => "END",
-        [_, _, "-", _] => "lines of unclear blocks",
+        [_, _, "-", ..] => "lines of unclear blocks",
         _ => "lines of clear characters",
     }
+}
+
+/// The line has a number with a minus as its word at this place.
+fn is_negative(line: &str, place: usize) -> bool {
+    line.split(' ')
+        .nth(place)
+        .is_some_and(|word| word.starts_with('-'))
 }
