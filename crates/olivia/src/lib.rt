@@ -1,5 +1,6 @@
 // The C library: the entries of document 01 for C and C++. include/olivia.h declares them.
 use block_decoder::Decoded;
+use block_decoder::NONE;
 use block_encoder::Encoded;
 use decision::Character;
 use refusal::Refusal;
@@ -42,16 +43,6 @@ pub struct BlockAnswer {
     pub answer: Answer,
     pub characters: [CharacterAnswer; 8],
 }
-
-// What the characters are written over.
-const UNTOLD: CharacterAnswer = CharacterAnswer {
-    code: 0,
-    lead: 0,
-    word: 0,
-    correlation: 0,
-    next: 0,
-    next_correlation: 0,
-};
 
 // number 0: the frequency. Else the refusal, and hertz is 0.
 #[repr(C)]
@@ -216,7 +207,7 @@ fn told_decoded(answer: Decoded) -> Answer
 fn told_characters(characters: [Character; 8]) -> [CharacterAnswer; 8]
     ensures { λ r. ⌜ r ≡ charactersTold characters ⌝ }
 {
-    let mut told = [UNTOLD; 8];
+    let mut told = [told_character(NONE); 8];
     let mut q: usize = 0;
     while q < 8 {
         told[q] = told_character(characters[q]);

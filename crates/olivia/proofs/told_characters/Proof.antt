@@ -1,4 +1,4 @@
-use mathlib.Core.Path.{_≡_, refl, _∙_}
+use mathlib.Core.Path.{_≡_, _∙_, ap}
 use Prim.Native.Nat.{_≤_, _-_}
 use native.Mathlib.Omega.{arith}
 use borrow.Author.Needs.{needs}
@@ -16,8 +16,11 @@ Inv-loop characters told₀ q₀ told q = (q ≤ 8) × (told ≡ over (tab (λ k
 abbrev μ-loop : tie.MeasureT-loop
 μ-loop characters told₀ q₀ told q = 8 - q
 
+told-character-requires : tie.Need-told-character-requires Inv-loop μ-loop
+told-character-requires c κs = search needs
+
 loop-holds : tie.Need-loop-holds Inv-loop μ-loop
-loop-holds c = (search needs, over-start _ _)
+loop-holds c = (search needs, ap (replicate 8) (c .told-character .ensures) ∙ over-start _ _)
 
 mul-told-character : tie.Need-mul-told-character Inv-loop μ-loop
 mul-told-character c = search needs
@@ -25,8 +28,8 @@ mul-told-character c = search needs
 array-copy-out-told-character : tie.Need-array-copy-out-told-character Inv-loop μ-loop
 array-copy-out-told-character c = search needs
 
-told-character-requires : tie.Need-told-character-requires Inv-loop μ-loop
-told-character-requires c κs = search needs
+told-character-requires-2 : tie.Need-told-character-requires-2 Inv-loop μ-loop
+told-character-requires-2 c κs = search needs
 
 mul-told : tie.Need-mul-told Inv-loop μ-loop
 mul-told c = search needs
@@ -43,7 +46,7 @@ loop-less c = search needs
 loop-again : tie.Need-loop-again Inv-loop μ-loop
 loop-again c =
     let l = c .before .before .before .loop in
-    (search needs, over-set (characterTold none) _ (l .q) _ _ _ (omega arith) (l .inv .1) (c .told-character .ensures))
+    (search needs, over-set (characterTold none) _ (l .q) _ _ _ (omega arith) (l .inv .1) (c .told-character2 .ensures))
 
 returns : tie.Need-returns Inv-loop μ-loop
 unfolding charactersTold
@@ -58,10 +61,11 @@ told-characters-spec =
     (tie.spec
     Inv-loop
     μ-loop
+    told-character-requires
     loop-holds
     mul-told-character
     array-copy-out-told-character
-    told-character-requires
+    told-character-requires-2
     mul-told
     array-set-from-told
     add-q
