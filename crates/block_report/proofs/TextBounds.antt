@@ -1,5 +1,5 @@
 -- How long the texts of a listing are, if its counts are below 2 ^ 64 and the numbers of its characters fit 32 bits.
-use mathlib.Core.List.{List, [], _∷_, _++_}
+use mathlib.Core.List.{List, _++_}
 use Prim.Native.Nat.{ℕ, zero, suc, _*_, _<_, _≤_, _^_}
 use native.Mathlib.Omega.{arith}
 use lib.IntN.{ℤ, natAbs}

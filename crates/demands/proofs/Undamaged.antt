@@ -2,7 +2,7 @@
 use mathlib.Core.Path.{_≡_, refl, sym, _∙_, ap}
 use mathlib.Core.Bool.{Bool, true, false, cond, not}
 use mathlib.Core.Logic.{_≢_}
-use Prim.Native.Nat.{ℕ, zero, suc, _+_, _-_, _%_, _<_, _≤_}
+use Prim.Native.Nat.{ℕ, suc, _-_, _%_, _<_, _≤_}
 use native.Mathlib.Decide.{ℕ-discrete}
 use native.Mathlib.Omega.{arith}
 use borrow.Author.Tests.{eq-eqb, ne-eqb, le-leb, lt-leb, ltb-true, ltb-false}
@@ -13,7 +13,6 @@ use Rattle.walsh.specs.Words.{signed, corr}
 use Rattle.walsh.proofs.Signed.{signed-twice}
 use Rattle.decision.specs.Decision.{negative, codeOf, decision}
 use Rattle.decision.specs.Laws.{Foremost}
-use Rattle.decision.specs.declared.Character.{Character}
 use Rattle.decision.proofs.Choice.{decision-law}
 use Rattle.damage.specs.Damage.{damage}
 use Rattle.damage.proofs.Drift.{damage-law}

@@ -1,15 +1,15 @@
 -- Texts put at the front of an output, one after another.
 use mathlib.Core.Path.{_≡_, refl, sym, _∙_, ap, subst}
 use mathlib.Core.Bool.{Bool, true, false, cond}
-use mathlib.Core.List.{List, [], _∷_, _++_, append-nil}
+use mathlib.Core.List.{List, [], _++_, append-nil}
 use Prim.Native.Nat.{ℕ, _+_, _-_, _<_, _≤_}
 use native.Mathlib.Omega.{arith}
 use borrow.Author.Tests.{le-leb, lt-leb}
 use lib.Dec.{leb}
-use lib.ListN.{length, take, drop, set, length-append, length-drop, drop-of-length-le}
+use lib.ListN.{length, take, drop, length-append, length-drop, drop-of-length-le}
 use borrow.Rule.Slice.PartAt.{part-to-end}
 use Rattle.lists.specs.Lists.{over}
-use Rattle.lists.proofs.Fronts.{over-none, over-one, over-after, over-length}
+use Rattle.lists.proofs.Fronts.{over-none, over-after, over-length}
 use Rattle.text.specs.Written.{written}
 use Rattle.text.proofs.Writing.{written-whole}
 use Rattle.report.specs.Output.{fitting}
@@ -49,11 +49,6 @@ put-fitting text out h put = rw (le-leb 1024 (length out) h) put
 pub put-roomy : (text out : List ℕ) {n : ℕ} {after : List ℕ} → 1024 ≤ length out → Put (fitting text (length out)) out n after → Put text out n after
 unfolding fitting
 put-roomy text out h put = rw (le-leb 1024 (length out) h) at put
-
--- one byte after a text
-pub put-byte : (text : List ℕ) (c : ℕ) (out : List ℕ) {n : ℕ} {x : List ℕ} → n < length out → Put text out n x → Put (text ++ (c ∷ [])) out (n + 1) (set x n c)
-put-byte text c out {n} {x} h (e, f) =
-    (omega (arith, length-append text (c ∷ [])), ap (λ (l : List ℕ). set l n c) f ∙ over-one 0 text out n c (sym e) h)
 
 -- one text after another, put into what is left of the output
 module _ (a out : List ℕ) {p : ℕ} {x : List ℕ} (put : Put a out p x) where

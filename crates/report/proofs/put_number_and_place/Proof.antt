@@ -3,7 +3,6 @@ use mathlib.Core.List.{_++_}
 use Prim.Native.Nat.{_≤_}
 use native.Mathlib.Omega.{arith}
 use borrow.Author.Needs.{needs}
-use lib.ListN.{length}
 use Rattle.lists.specs.Lists.{tab}
 use Rattle.text.specs.Ascii.{ascii, lineFeed, space}
 use Rattle.text.specs.Decimal.{field}
