@@ -17,7 +17,7 @@ use Rattle.lists.specs.Lists.{tab, num}
 use Rattle.lists.proofs.Tables.{tab-at}
 use Rattle.walsh.specs.Words.{signed, turned}
 use Rattle.walsh.proofs.Signs.{lowest-digit, odd-zero, odd-one}
-use Rattle.decision.specs.Counts.{countAt}
+use Rattle.lead_finder.specs.Counts.{countAt}
 use Rattle.chain.specs.Chain.{bit, keyBit, missingMark}
 use Rattle.chain.specs.Tables.{keysAt, placeWeight}
 use Rattle.chain.proofs.Binary.{number-bit}

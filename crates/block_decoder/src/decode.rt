@@ -75,7 +75,10 @@ pub fn characters(mode: u32, tones: &[u16]) -> [Character; 8]
     let mut characters = [NONE; 8];
     let mut q: usize = 0;
     while q < b {
-        characters[q] = decision::decide(interleaver::signs(q, &keys, &places, &symbols), &weights);
+        characters[q] = lead_finder::decide(
+            interleaver::signs(q, &keys, &places, &symbols),
+            &weights,
+        );
         q += 1;
     }
     characters

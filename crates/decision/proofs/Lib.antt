@@ -1,4 +1,2 @@
 pub mod Choice
 pub mod Parities
-pub mod Locals
-pub mod KeyOrder

@@ -1,4 +1,2 @@
-pub mod Counts
 pub mod Decision
 pub mod Laws
-pub mod Internal

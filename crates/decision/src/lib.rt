@@ -1,12 +1,5 @@
-// The decision on one character, from the sign and the weight of what each symbol counts: document 01, "Hearing a block", and order 5.
-ghost use mathlib.Core.Path.{_≡_};
-ghost use Rattle.lists.specs.Lists.{tab};
-ghost use Rattle.walsh.specs.Words.{corr};
-ghost use Rattle.decision.specs.Counts.{countOf, countAt};
-ghost use Rattle.decision.specs.Decision.{decision};
-
+// What the decision on one character is: document 01, "Hearing a block", and order 5. Its rules are in specs/Decision.antt.
 pub mod laws;
-mod lead_finder;
 
 // A decided character: its 7-bit code, and document 01's lead, the decision's margin over its nearest rival; then why, the word that won
 // and the word that came next, each with its signed correlation.
@@ -17,30 +10,4 @@ pub struct Character {
     pub correlation: i32,
     pub next: u32,
     pub next_correlation: i32,
-}
-
-// The decision on one character. A weight is taken by its lowest four bits, so that no correlation is above 64 * 15 in magnitude.
-pub fn decide(signs: [bool; 64], weights: &[u8; 64]) -> Character
-    ensures { λ r. ⌜ r ≡ decision (corr (countAt signs (now (weights .entry)))) ⌝ }
-{
-    lead_finder::find(walsh::correlations(counts(signs, weights)))
-}
-
-fn counts(signs: [bool; 64], weights: &[u8; 64]) -> [i8; 64]
-    ensures { λ r. ⌜ r ≡ tab (countAt signs (now (weights .entry))) 64 ⌝ }
-{
-    let mut counts = [0i8; 64];
-    let mut t: usize = 0;
-    while t < 64 {
-        counts[t] = count(signs[t], weights[t]);
-        t += 1;
-    }
-    counts
-}
-
-fn count(minus: bool, weight: u8) -> i8
-    ensures { λ r. ⌜ r ≡ countOf minus weight ⌝ }
-{
-    let size = (weight % 16) as i8;
-    if minus { -size } else { size }
 }

@@ -59,20 +59,20 @@ fn print(c: Character) {
 
 fn print_every_code() {
     for code in 0..128 {
-        print(decision::decide(sent(code), &[1; 64]));
+        print(lead_finder::decide(sent(code), &[1; 64]));
     }
 }
 
 fn main() {
     print_every_code();
-    print(decision::decide(turned(0, 15), &[1; 64]));
-    print(decision::decide(turned(0, 16), &[1; 64]));
-    print(decision::decide(sent(0), &missing(31)));
-    print(decision::decide(sent(0), &missing(32)));
-    print(decision::decide(turned(0, 32), &[1; 64]));
-    print(decision::decide(sent(0), &[0; 64]));
-    print(decision::decide(turned(64, 15), &[1; 64]));
-    print(decision::decide(sent(70), &[15; 64]));
-    print(decision::decide(sent(70), &[255; 64]));
-    print(decision::decide(sent(70), &[16; 64]));
+    print(lead_finder::decide(turned(0, 15), &[1; 64]));
+    print(lead_finder::decide(turned(0, 16), &[1; 64]));
+    print(lead_finder::decide(sent(0), &missing(31)));
+    print(lead_finder::decide(sent(0), &missing(32)));
+    print(lead_finder::decide(turned(0, 32), &[1; 64]));
+    print(lead_finder::decide(sent(0), &[0; 64]));
+    print(lead_finder::decide(turned(64, 15), &[1; 64]));
+    print(lead_finder::decide(sent(70), &[15; 64]));
+    print(lead_finder::decide(sent(70), &[255; 64]));
+    print(lead_finder::decide(sent(70), &[16; 64]));
 }
