@@ -13,7 +13,7 @@ use Rattle.walsh.specs.Words.{signed, corr}
 use Rattle.walsh.proofs.Signed.{signed-twice}
 use Rattle.decision.specs.Decision.{negative, codeOf, decision}
 use Rattle.decision.specs.Laws.{Foremost}
-use Rattle.decision.proofs.Choice.{decision-law}
+use Rattle.decision.proofs.Choice.{decision-law, same-character}
 use Rattle.damage.specs.Damage.{damage}
 use Rattle.damage.proofs.Drift.{damage-law}
 use Rattle.demands.specs.Laws.{undamaged}
@@ -111,4 +111,6 @@ module _ (v : ℕ) (below : v < 128) where
       by false e = sym (le-leb 64 v (ltb-false v 64 e))
 
   pub heard-undamaged : (h : ℕ → ℤ) → damage 1 (wordOf v) (signOf v) h ≡ 0 → decision (corr h) ≡ undamaged v
-  heard-undamaged h e = sym (as-sent (wordOf v) (signOf v) h (word-below v below) e) ∙ (rw (code-of-word v, word-is, sign-is))
+  heard-undamaged h e =
+      sym (as-sent (wordOf v) (signOf v) h (word-below v below) e)
+      ∙ same-character (code-of-word v) refl word-is (ap (λ (s : Bool). signed s (pos 64)) sign-is) (ap (λ (w : ℕ). cond (eqb w 0) 1 0) word-is) refl
