@@ -7,7 +7,7 @@ use Rattle.text.specs.Ascii.{ascii, lineFeed, space}
 use Rattle.text.specs.Decimal.{field}
 use Rattle.refusal.specs.declared.Refusal.{Refusal}
 
--- order 5 gave it its last four columns
+-- document 01's columns, and those of order 5
 unfoldable pub heading : List ℕ
 heading = ascii "BLOCK CHAR CODE LEAD WORD CORR NEXT CORR\n"
 
