@@ -1,2 +1,3 @@
+pub mod Quick
 pub mod Tests
 pub mod Computed

@@ -1,27 +1,36 @@
 -- A test of a row, and the law that turns it into what the row says.
-use mathlib.Core.Path.{_≡_, refl, ap, ap₂}
+use mathlib.Core.Path.{_≡_, refl, sym, _∙_, ap, ap₂, subst}
 use mathlib.Core.Bool.{Bool, true, false, _&&_}
 use mathlib.Core.List.{List, [], _∷_}
 use Prim.Native.Nat.{ℕ, _+_, _*_}
-use lib.Dec.{T, eqb, eqb→eq}
+use native.Mathlib.Omega.{arith}
+use lib.Dec.{T, leb, eqb, leb→le, eqb→eq}
 use lib.ListN.{length, take, replicate}
 use lib.Ieee.{Float, nan, inf, fin, up, down}
+use lib.Ieee.Bits.{is-true}
 use lib.Ieee.Exact.{HasValue}
 use lib.Ieee.Fits.{and-l, and-r}
 use Rattle.lists.specs.Lists.{num}
 use Rattle.refusal.specs.Refused.{unclearAt}
+use Rattle.refusal.specs.Checks.{isLead, IsSet}
+use Rattle.decision.specs.declared.Character.{Character}
 use Rattle.chain.specs.Tables.{symbolOf}
+use Rattle.tone_range.specs.Range.{firstBadTone}
+use Rattle.weight_range.proofs.Ranges.{weights-in-range, has-throughout}
 use Rattle.block_encoder.specs.Encoding.{encodedInto}
-use Rattle.block_decoder.specs.Decoding.{charactersOf, codesOf, leadIn, decodeBlock}
+use Rattle.block_decoder.specs.Decoding.{plain, codesOf, leadIn, decodeBlock}
 use Rattle.block_decoder.specs.declared.BlockDecoded.{BlockDecoded}
 use Rattle.block_decoder.specs.declared.Decoded.{Decoded}
 use Rattle.block_decoder.specs.declared.Decoded.the-variants as decoded
+use Rattle.block_decoder.proofs.DecodeCases.{judged, judges}
+use Rattle.block_decoder.proofs.Answers.{passed}
 use Rattle.demands.specs.Demand.{replacedIn, missingIn}
 use Rattle.band.specs.Frequencies.{frequencyOf}
 use Rattle.band.specs.declared.Tuned.{Tuned}
 use Rattle.band.specs.declared.Tuned.the-variants as tuned
 use Rattle.bench_sheet.specs.Heard.{case-1, Accepts}
 use Rattle.bench_sheet.specs.Sheet.{Row, b=_codes_first-tones_, tone_is-symbol_, _r=_u=_, _m=_accepts-code_lead_, _m=_refuses-10-place_lead_, _has-lead_, _just-beyond-demand-3-at-m=_, b=_B_centre_tone_at_thousandths, Holds, Each}
+use Rattle.bench_sheet.proofs.Quick.{quickOf, characters-quick}
 
 -- ---- lists of numbers
 
@@ -99,15 +108,38 @@ hertz : (f : Tuned) (k c : ℕ) → T (is-hertz f k c) → (x : Float) × (f ≡
 hertz (tuned.Hertz x) k c t = (x, refl, value x k c t)
 hertz (tuned.Refused r) k c t = absurd t
 
+-- ---- blocks at b = 1
+
+-- every check before the characters is passed
+abbrev is-whole : ℕ → List ℕ → Bool
+is-whole m heard = isLead m && (eqb (length heard) 64 && leb 64 (firstBadTone 2 heard))
+
+-- what is then answered
+abbrev quick : ℕ → List ℕ → BlockDecoded
+quick m heard = judged 1 m (quickOf 1 heard plain)
+
+decoded-quick : (m : ℕ) (heard : List ℕ) → T (is-whole m heard) → decodeBlock 1 m heard 1 ≡ quick m heard
+decoded-quick m heard t =
+    let first = isLead m in
+    let second = eqb (length heard) 64 in
+    let third = leb 64 (firstBadTone 2 heard) in
+    let rest = and-r first (second && third) t in
+    let set : IsSet 1 m = record { mode = refl; lead = is-true first (and-l first (second && third) t) } in
+    judges 1 1 m heard plain 1
+    (passed 1 m heard 1 set (eqb→eq (length heard) 64 (and-l second third rest)) (omega arith))
+    (leb→le 64 (firstBadTone 2 heard) (and-r second third rest))
+    (weights-in-range 1 plain (has-throughout 1 1 (omega arith)))
+    ∙ ap (judged 1 m) (characters-quick 1 heard plain)
+
 -- ---- rows
 
 abbrev passes : Row → Bool
 passes (b= b codes vs first-tones ts) = same (take (length ts) (encodedInto b vs (replicate 64 0))) ts
 passes (tone g is-symbol s) = eqb (symbolOf g) s
 passes (heard r= r u= u) = eqb (replacedIn case-1 heard) r && eqb (missingIn heard) u
-passes (heard m= m accepts-code v lead l) = is-accepted (decodeBlock 1 m heard 1) v l
-passes (heard m= m refuses-10-place q lead l) = is-unclear (decodeBlock 1 m heard 1 .answer) q l
-passes (heard has-lead l) = eqb (leadIn (charactersOf 1 heard) 0) l
+passes (heard m= m accepts-code v lead l) = is-whole m heard && is-accepted (quick m heard) v l
+passes (heard m= m refuses-10-place q lead l) = is-whole m heard && is-unclear (quick m heard .answer) q l
+passes (heard has-lead l) = eqb (leadIn (quickOf 1 heard plain) 0) l
 passes (heard just-beyond-demand-3-at-m= m) = eqb (2 * missingIn heard + 4 * replacedIn case-1 heard) (64 + m)
 passes (b= b B w centre c tone n at k thousandths) = is-hertz (frequencyOf b w c n) k 1000
 
@@ -118,9 +150,16 @@ holds (heard r= r u= u) t =
     let replaced = eqb (replacedIn case-1 heard) r in
     let missing = eqb (missingIn heard) u in
     (eqb→eq (replacedIn case-1 heard) r (and-l replaced missing t), eqb→eq (missingIn heard) u (and-r replaced missing t))
-holds (heard m= m accepts-code v lead l) t = accepted (decodeBlock 1 m heard 1) v l t
-holds (heard m= m refuses-10-place q lead l) t = unclear (decodeBlock 1 m heard 1 .answer) q l t
-holds (heard has-lead l) t = eqb→eq (leadIn (charactersOf 1 heard) 0) l t
+holds (heard m= m accepts-code v lead l) t =
+    let whole = is-whole m heard in
+    let its = is-accepted (quick m heard) v l in
+    subst (λ (d : BlockDecoded). Accepts d v l) (sym (decoded-quick m heard (and-l whole its t))) (accepted (quick m heard) v l (and-r whole its t))
+holds (heard m= m refuses-10-place q lead l) t =
+    let whole = is-whole m heard in
+    let its = is-unclear (quick m heard .answer) q l in
+    ap (λ (d : BlockDecoded). d .answer) (decoded-quick m heard (and-l whole its t)) ∙ unclear (quick m heard .answer) q l (and-r whole its t)
+holds (heard has-lead l) t =
+    ap (λ (x : List Character). leadIn x 0) (characters-quick 1 heard plain) ∙ eqb→eq (leadIn (quickOf 1 heard plain) 0) l t
 holds (heard just-beyond-demand-3-at-m= m) t = eqb→eq (2 * missingIn heard + 4 * replacedIn case-1 heard) (64 + m) t
 holds (b= b B w centre c tone n at k thousandths) t = hertz (frequencyOf b w c n) k 1000 t
 

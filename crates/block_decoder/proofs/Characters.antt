@@ -14,55 +14,55 @@ use Rattle.lists.proofs.Places.{first-ext}
 use Rattle.lists.proofs.Tables.{tab-length, tab-at, tab-ext, tab-map}
 use Rattle.refusal.specs.Refused.{unclearAt}
 use Rattle.decision.specs.declared.Character.{Character}
-use Rattle.block_decoder.specs.Decoding.{characterAt, charactersOf, codesOf, none, leadIn, firstUnclear, unlessUnclear, padded}
+use Rattle.block_decoder.specs.Decoding.{weightedAt, weightedOf, codesOf, none, leadIn, firstUnclear, unlessUnclear, padded}
 use Rattle.block_decoder.specs.Internal.{codeIn, firstUnclearIn, judgementIn}
 use Rattle.block_decoder.specs.declared.Decoded.the-variants.{Text, Refused}
 
-module _ (b : ℕ) (tones : List ℕ) where
-  pub characters-length : length (charactersOf b tones) ≡ b
-  unfolding charactersOf
-  characters-length = tab-length (characterAt b tones) b
+module _ (b : ℕ) (tones weights : List ℕ) where
+  pub characters-length : length (weightedOf b tones weights) ≡ b
+  unfolding weightedOf
+  characters-length = tab-length (weightedAt b tones weights) b
 
-  pub character-at : (q : ℕ) → q < b → getD (charactersOf b tones) q none ≡ characterAt b tones q
-  unfolding charactersOf
-  character-at q h = tab-at (characterAt b tones) none b q h
+  pub character-at : (q : ℕ) → q < b → getD (weightedOf b tones weights) q none ≡ weightedAt b tones weights q
+  unfolding weightedOf
+  character-at q h = tab-at (weightedAt b tones weights) none b q h
 
-  pub character-padded : (q : ℕ) → q < b → getD (padded (charactersOf b tones)) q none ≡ characterAt b tones q
-  unfolding padded charactersOf
-  character-padded q h = over-tab-at (characterAt b tones) none b (replicate 8 none) q h
+  pub character-padded : (q : ℕ) → q < b → getD (padded (weightedOf b tones weights)) q none ≡ weightedAt b tones weights q
+  unfolding padded weightedOf
+  character-padded q h = over-tab-at (weightedAt b tones weights) none b (replicate 8 none) q h
 
   -- eight characters tell of a block's own what the block's own tell
-  pub same-lead : (q : ℕ) → q < b → leadIn (padded (charactersOf b tones)) q ≡ leadIn (charactersOf b tones) q
+  pub same-lead : (q : ℕ) → q < b → leadIn (padded (weightedOf b tones weights)) q ≡ leadIn (weightedOf b tones weights) q
   same-lead q h = ap (λ (c : Character). c .lead) (character-padded q h ∙ sym (character-at q h))
 
-  pub codes-are : codesOf (charactersOf b tones) ≡ tab (λ q. characterAt b tones q .code) b
-  unfolding codesOf charactersOf
-  codes-are = tab-map (λ c. c .code) (characterAt b tones) b
+  pub codes-are : codesOf (weightedOf b tones weights) ≡ tab (λ q. weightedAt b tones weights q .code) b
+  unfolding codesOf weightedOf
+  codes-are = tab-map (λ c. c .code) (weightedAt b tones weights) b
 
-  pub codes-length : length (codesOf (charactersOf b tones)) ≡ b
-  codes-length = ap length codes-are ∙ tab-length (λ q. characterAt b tones q .code) b
+  pub codes-length : length (codesOf (weightedOf b tones weights)) ≡ b
+  codes-length = ap length codes-are ∙ tab-length (λ q. weightedAt b tones weights q .code) b
 
-  pub codes-padded : tab (codeIn (padded (charactersOf b tones))) b ≡ take b (codesOf (charactersOf b tones))
+  pub codes-padded : tab (codeIn (padded (weightedOf b tones weights))) b ≡ take b (codesOf (weightedOf b tones weights))
   codes-padded =
-      tab-ext 0 (codeIn (padded (charactersOf b tones))) (λ q. characterAt b tones q .code) b (λ q h. ap (λ (c : Character). c .code) (character-padded q h))
+      tab-ext 0 (codeIn (padded (weightedOf b tones weights))) (λ q. weightedAt b tones weights q .code) b (λ q h. ap (λ (c : Character). c .code) (character-padded q h))
       ∙ sym codes-are
-      ∙ sym (take-all b (codesOf (charactersOf b tones)) (omega (arith, codes-length)))
+      ∙ sym (take-all b (codesOf (weightedOf b tones weights)) (omega (arith, codes-length)))
 
   module _ (m : ℕ) where
-    first-padded : firstUnclearIn b m (padded (charactersOf b tones)) ≡ firstUnclear m (charactersOf b tones)
+    first-padded : firstUnclearIn b m (padded (weightedOf b tones weights)) ≡ firstUnclear m (weightedOf b tones weights)
     unfolding firstUnclearIn firstUnclear
     first-padded =
         rw characters-length
         (first-ext _ _ b (λ q h. ap (λ (lead : ℕ). ltb lead m) (same-lead q h)))
 
-    pub judgement-padded : judgementIn b m (padded (charactersOf b tones)) ≡ unlessUnclear m (charactersOf b tones) (Text b)
+    pub judgement-padded : judgementIn b m (padded (weightedOf b tones weights)) ≡ unlessUnclear m (weightedOf b tones weights) (Text b)
     unfolding judgementIn unlessUnclear
     judgement-padded = rw (first-padded, characters-length) (by (ltb p b) refl)
       where
         p : ℕ
-        p = firstUnclear m (charactersOf b tones)
+        p = firstUnclear m (weightedOf b tones weights)
 
         by : (t : Bool) → ltb p b ≡ t
-            → cond t (Refused (unclearAt p (leadIn (padded (charactersOf b tones)) p))) (Text b) ≡ cond t (Refused (unclearAt p (leadIn (charactersOf b tones) p))) (Text b)
+            → cond t (Refused (unclearAt p (leadIn (padded (weightedOf b tones weights)) p))) (Text b) ≡ cond t (Refused (unclearAt p (leadIn (weightedOf b tones weights) p))) (Text b)
         by true e = ap (λ (lead : ℕ). Refused (unclearAt p lead)) (same-lead p (ltb-true p b e))
         by false e = refl

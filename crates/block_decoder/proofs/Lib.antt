@@ -1,3 +1,4 @@
+pub mod Counts
 pub mod TableCounts
 pub mod Characters
 pub mod Clarity

@@ -1,4 +1,5 @@
--- Document 01, "Hearing a block", and what decoding a block answers and leaves in the output. Checks when hearing: 1, 2, 7, 9, 8, 10.
+-- Document 01, "Hearing a block", with the weights of document 02, order 3, and what decoding a block answers and leaves in the output.
+-- Checks when hearing: 1, 2, 7, 9, 8, 14, 10. Plain hearing is hearing with weight 1 throughout, so that 14 does not occur.
 use mathlib.Core.Bool.{Bool, cond, not}
 use mathlib.Core.List.{List, map}
 use Prim.Native.Nat.{ℕ, _+_, _%_, _^_}
@@ -8,18 +9,23 @@ use lib.ListN.{length, getD, take, replicate}
 use Rattle.lists.specs.Lists.{tab, num, over}
 use Rattle.lists.specs.Places.{first}
 use Rattle.refusal.specs.Refused.{refusedAt, unclearAt}
-use Rattle.refusal.specs.Checks.{isMode, isLead}
+use Rattle.refusal.specs.Checks.{isLeadAt, isMode}
 use Rattle.walsh.specs.Words.{signed, corr, turned}
 use Rattle.decision.specs.Decision.{decision}
 use Rattle.decision.specs.declared.Character.{Character}
 use Rattle.chain.specs.Chain.{missingMark, bit, keyBit}
 use Rattle.chain.specs.Tables.{symbolOf}
 use Rattle.tone_range.specs.Range.{firstBadTone}
+use Rattle.weight_range.specs.Range.{throughout, firstBadWeight}
 use Rattle.block_decoder.specs.declared.Decoded.{Decoded}
 use Rattle.block_decoder.specs.declared.Decoded.the-variants.{Text, Refused}
 use Rattle.block_decoder.specs.declared.BlockDecoded.{BlockDecoded}
 
 -- ---- the characters
+
+-- the weights of plain hearing
+abbrev pub plain : List ℕ
+plain = throughout 1
 
 -- the symbol of a tone; a missing tone's is missing too
 unfoldable pub heardSymbol : ℕ → ℕ
@@ -28,21 +34,29 @@ heardSymbol tone = cond (eqb tone missingMark) missingMark (symbolOf tone)
 unfoldable pub symbolsOf : List ℕ → List ℕ
 symbolsOf tones = tab (λ t. heardSymbol (num tones t)) 64
 
--- what a symbol counts for a character whose bit is at place, after XOR with a key bit: +1 for 0, -1 for 1, 0 if it is missing
-unfoldable pub countOf : Bool → ℕ → ℕ → ℤ
-countOf k place symbol = cond (eqb symbol missingMark) (pos 0) (signed (turned k (bit symbol place)) (pos 1))
+-- what a symbol counts for a character whose bit is at place, after XOR with a key bit: +weight for 0, -weight for 1, and 0 if it is missing,
+-- whatever its weight
+unfoldable pub countOf : Bool → ℕ → ℕ → ℕ → ℤ
+countOf k place weight symbol = cond (eqb symbol missingMark) (pos 0) (signed (turned k (bit symbol place)) (pos weight))
 
 -- what symbol t counts for character q: interleaver and key undone
-unfoldable pub countIn : ℕ → List ℕ → ℕ → ℕ → ℤ
-countIn b symbols q t = countOf (keyBit q t) ((q + t) % b) (num symbols t)
+unfoldable pub countIn : ℕ → List ℕ → List ℕ → ℕ → ℕ → ℤ
+countIn b symbols weights q t = countOf (keyBit q t) ((q + t) % b) (num weights t) (num symbols t)
 
--- the decision on character q
-unfoldable pub characterAt : ℕ → List ℕ → ℕ → Character
-characterAt b tones q = decision (corr (countIn b (symbolsOf tones) q))
+-- the decision on character q, by the weighted sums
+unfoldable pub weightedAt : ℕ → List ℕ → List ℕ → ℕ → Character
+weightedAt b tones weights q = decision (corr (countIn b (symbolsOf tones) weights q))
 
 -- the decisions on the b characters of a block
-unfoldable pub charactersOf : ℕ → List ℕ → List Character
-charactersOf b tones = tab (characterAt b tones) b
+unfoldable pub weightedOf : ℕ → List ℕ → List ℕ → List Character
+weightedOf b tones weights = tab (weightedAt b tones weights) b
+
+-- the same in plain hearing
+abbrev pub characterAt : ℕ → List ℕ → ℕ → Character
+characterAt b tones q = weightedAt b tones plain q
+
+abbrev pub charactersOf : ℕ → List ℕ → List Character
+charactersOf b tones = weightedOf b tones plain
 
 unfoldable pub codesOf : List Character → List ℕ
 codesOf characters = map (λ c. c .code) characters
@@ -75,15 +89,25 @@ padded characters = over characters (replicate 8 none)
 unfoldable pub refused : ℕ → ℕ → BlockDecoded
 refused number place = record { answer = Refused (refusedAt number place); characters = replicate 8 none }
 
--- the answer for an output of room codes
-unfoldable pub decodeBlock : ℕ → ℕ → List ℕ → ℕ → BlockDecoded
-decodeBlock b m tones room =
+-- the answer for an output of room codes, where weights are 0 to N, and m is 1 to 64 * N
+unfoldable pub heardBlock : ℕ → ℕ → ℕ → List ℕ → List ℕ → ℕ → BlockDecoded
+heardBlock N b m tones weights room =
     cond (not (isMode b)) (refused 1 0)
-    (cond (not (isLead m)) (refused 2 0)
+    (cond (not (isLeadAt N m)) (refused 2 0)
     (cond (not (eqb (length tones) 64)) (refused 7 0)
+    (cond (not (eqb (length weights) 64)) (refused 7 0)
     (cond (ltb room b) (refused 9 0)
     (cond (ltb (firstBadTone (2 ^ b) tones) 64) (refused 8 (firstBadTone (2 ^ b) tones))
-    (record { answer = unlessUnclear m (charactersOf b tones) (Text b); characters = padded (charactersOf b tones) })))))
+    (cond (ltb (firstBadWeight N weights) 64) (refused 14 (firstBadWeight N weights))
+    (record { answer = unlessUnclear m (weightedOf b tones weights) (Text b); characters = padded (weightedOf b tones weights) })))))))
+
+-- plain hearing
+abbrev pub decodeBlock : ℕ → ℕ → List ℕ → ℕ → BlockDecoded
+decodeBlock b m tones room = heardBlock 1 b m tones plain room
+
+-- hearing with weights from 0 to 15
+abbrev pub decodeWeighted : ℕ → ℕ → List ℕ → List ℕ → ℕ → BlockDecoded
+decodeWeighted b m tones weights room = heardBlock 15 b m tones weights room
 
 -- ---- the output
 
@@ -92,5 +116,11 @@ unfoldable pub heardInto : Decoded → List ℕ → List ℕ → List ℕ
 heardInto (Text n) codes out = over (take n codes) out
 heardInto (Refused r) codes out = out
 
-unfoldable pub decodedInto : ℕ → ℕ → List ℕ → List ℕ → List ℕ
-decodedInto b m tones out = heardInto (decodeBlock b m tones (length out) .answer) (codesOf (charactersOf b tones)) out
+unfoldable pub heardBlockInto : ℕ → ℕ → ℕ → List ℕ → List ℕ → List ℕ → List ℕ
+heardBlockInto N b m tones weights out = heardInto (heardBlock N b m tones weights (length out) .answer) (codesOf (weightedOf b tones weights)) out
+
+abbrev pub decodedInto : ℕ → ℕ → List ℕ → List ℕ → List ℕ
+decodedInto b m tones out = heardBlockInto 1 b m tones plain out
+
+abbrev pub weightedInto : ℕ → ℕ → List ℕ → List ℕ → List ℕ → List ℕ
+weightedInto b m tones weights out = heardBlockInto 15 b m tones weights out

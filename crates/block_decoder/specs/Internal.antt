@@ -1,34 +1,44 @@
--- What only private contracts need: the sign of what a symbol counts, by the tables of key bits and weights, and how often it counts; and
--- what is found in an answer's array of eight characters.
+-- What only private contracts need: the sign of what a symbol counts, by the tables of symbols, key bits and values of places, and the
+-- weights that count; and what is found in an answer's array of eight characters.
 use mathlib.Core.Bool.{Bool, cond, not}
 use mathlib.Core.List.{List}
-use Prim.Native.Nat.{ℕ, _+_}
+use Prim.Native.Nat.{ℕ, _+_, _%_}
 use lib.Bits.{bitAnd}
 use lib.Dec.{ltb, eqb}
 use lib.ListN.{getD}
-use Rattle.lists.specs.Lists.{num}
+use Rattle.lists.specs.Lists.{tab, num}
 use Rattle.lists.specs.Places.{first}
 use Rattle.refusal.specs.Refused.{unclearAt}
 use Rattle.walsh.specs.Words.{turned}
 use Rattle.decision.specs.declared.Character.{Character}
 use Rattle.chain.specs.Chain.{missingMark, bit}
+use Rattle.chain.specs.Tables.{symbolOf}
 use Rattle.block_decoder.specs.Decoding.{none, leadIn}
 use Rattle.block_decoder.specs.declared.Decoded.{Decoded}
 use Rattle.block_decoder.specs.declared.Decoded.the-variants.{Text, Refused}
 
--- ---- signs by tables, and weights
+-- ---- symbols and signs by tables
 
--- the sign of what a symbol counts for a character whose bit has this weight, after XOR with a key bit
+-- the symbol of each tone by its lowest eight bits, for a missing one too
+unfoldable pub byteSymbols : List ℕ → List ℕ
+byteSymbols tones = tab (λ t. symbolOf (num tones t % 256)) 64
+
+-- the sign of what a symbol counts for a character whose bit has this value in it, after XOR with a key bit
 unfoldable pub signBy : Bool → ℕ → ℕ → Bool
-signBy k weight symbol = turned k (not (eqb (bitAnd symbol weight) 0))
+signBy k value symbol = turned k (not (eqb (bitAnd symbol value) 0))
 
 -- of symbol t for character q
 unfoldable pub tableSign : List ℕ → List ℕ → List ℕ → ℕ → ℕ → Bool
-tableSign keys weights symbols q t = signBy (bit (num keys t) q) (num weights (q + t)) (num symbols t)
+tableSign keys values symbols q t = signBy (bit (num keys t) q) (num values (q + t)) (num symbols t)
 
--- how often a symbol counts
-unfoldable pub heardWeight : ℕ → ℕ
-heardWeight symbol = cond (eqb symbol missingMark) 0 1
+-- ---- weights
+
+-- a missing tone has weight 0
+unfoldable pub heardWeight : ℕ → ℕ → ℕ
+heardWeight tone weight = cond (eqb tone missingMark) 0 weight
+
+unfoldable pub heardWeights : List ℕ → List ℕ → List ℕ
+heardWeights tones weights = tab (λ t. heardWeight (num tones t) (num weights t)) 64
 
 -- ---- the first n characters of eight
 

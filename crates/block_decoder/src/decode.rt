@@ -7,77 +7,66 @@ use chain::scrambler;
 use decision::Character;
 ghost use mathlib.Core.Path.{_≡_};
 ghost use mathlib.Core.Bool.{true};
-ghost use mathlib.Core.Logic.{_⊎_};
-ghost use Prim.Native.Nat.{_<_, _≤_};
+ghost use Prim.Native.Nat.{_≤_};
 ghost use lib.ListN.{length};
-ghost use Rattle.lists.specs.Lists.{tab, num, over};
+ghost use Rattle.lists.specs.Lists.{tab, over};
 ghost use Rattle.refusal.specs.Checks.{isMode};
-ghost use Rattle.chain.specs.Chain.{missingMark};
-ghost use Rattle.chain.specs.Tables.{symbolOf};
 ghost use Rattle.tone_range.specs.Range.{HasTones};
-ghost use Rattle.block_decoder.specs.Decoding.{symbolsOf, heardSymbol, charactersOf, padded};
-ghost use Rattle.block_decoder.specs.Internal.{heardWeight, codeIn, firstUnclearIn};
+ghost use Rattle.weight_range.specs.Range.{HasWeights};
+ghost use Rattle.block_decoder.specs.Decoding.{weightedOf, padded};
+ghost use Rattle.block_decoder.specs.Internal.{byteSymbols, heardWeight, heardWeights, codeIn, firstUnclearIn};
 
-// A missing tone's symbol is missing too.
-fn heard_symbol(symbols: &[u8; 256], tone: u16) -> u16
-    requires { ⌜ (now symbols ≡ tab symbolOf 256) × ((tone < 256) ⊎ (tone ≡ missingMark)) ⌝ }
-    ensures { λ r. ⌜ r ≡ heardSymbol tone ⌝ }
-{
-    if tone == MISSING {
-        return MISSING;
-    }
-    symbols[tone as usize] as u16
-}
-
-fn heard_symbols(tones: &[u16]) -> [u16; 64]
-    requires { ⌜ HasTones 256 (now tones) ⌝ }
-    ensures { λ r. ⌜ r ≡ symbolsOf (now (tones .entry)) ⌝ }
+// The symbols of the tones, each by its lowest eight bits; what stands for a missing one has no weight.
+fn heard_symbols(tones: &[u16]) -> [u8; 64]
+    requires { ⌜ length (now tones) ≡ 64 ⌝ }
+    ensures { λ r. ⌜ r ≡ byteSymbols (now (tones .entry)) ⌝ }
 {
     let symbols = gray::symbols();
-    let mut heard = [0u16; 64];
+    let mut heard = [0u8; 64];
     let mut t: usize = 0;
     while t < 64 {
-        heard[t] = heard_symbol(&symbols, tones[t]);
+        heard[t] = symbols[(tones[t] % 256) as usize];
         t += 1;
     }
     heard
 }
 
-// A missing symbol counts nothing, any other once.
-fn heard_weight(symbol: u16) -> u8
-    ensures { λ r. ⌜ r ≡ heardWeight symbol ⌝ }
+fn heard_weight(tone: u16, weight: u8) -> u8
+    ensures { λ r. ⌜ r ≡ heardWeight tone weight ⌝ }
 {
-    if symbol == MISSING { 0 } else { 1 }
+    if tone == MISSING { 0 } else { weight }
 }
 
-fn heard_weights(symbols: &[u16; 64]) -> [u8; 64]
-    ensures { λ r. ⌜ r ≡ tab (λ t. heardWeight (num (now (symbols .entry)) t)) 64 ⌝ }
+// The weights that count: a missing tone has none, whatever was sent.
+fn heard_weights(tones: &[u16], weights: &[u8]) -> [u8; 64]
+    requires { ⌜ (length (now tones) ≡ 64) × (length (now weights) ≡ 64) ⌝ }
+    ensures { λ r. ⌜ r ≡ heardWeights (now (tones .entry)) (now (weights .entry)) ⌝ }
 {
-    let mut weights = [0u8; 64];
+    let mut heard = [0u8; 64];
     let mut t: usize = 0;
     while t < 64 {
-        weights[t] = heard_weight(symbols[t]);
+        heard[t] = heard_weight(tones[t], weights[t]);
         t += 1;
     }
-    weights
+    heard
 }
 
 // The decisions on the characters of a block, in an array of eight.
-pub fn characters(mode: u32, tones: &[u16]) -> [Character; 8]
-    requires { ⌜ (isMode mode ≡ true) × HasTones 256 (now tones) ⌝ }
-    ensures { λ r. ⌜ r ≡ padded (charactersOf mode (now (tones .entry))) ⌝ }
+pub fn characters(mode: u32, tones: &[u16], weights: &[u8]) -> [Character; 8]
+    requires { ⌜ (isMode mode ≡ true) × HasTones 256 (now tones) × HasWeights 15 (now weights) ⌝ }
+    ensures { λ r. ⌜ r ≡ padded (weightedOf mode (now (tones .entry)) (now (weights .entry))) ⌝ }
 {
     let symbols = heard_symbols(tones);
-    let weights = heard_weights(&symbols);
+    let heard = heard_weights(tones, weights);
     let keys = scrambler::keys();
-    let places = chain::interleaver::weights(mode);
+    let values = chain::interleaver::values(mode);
     let b = mode as usize;
     let mut characters = [NONE; 8];
     let mut q: usize = 0;
     while q < b {
         characters[q] = lead_finder::decide(
-            interleaver::signs(q, &keys, &places, &symbols),
-            &weights,
+            interleaver::signs(q, &keys, &values, &symbols),
+            &heard,
         );
         q += 1;
     }

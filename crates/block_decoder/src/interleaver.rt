@@ -4,23 +4,23 @@ ghost use Prim.Native.Nat.{_<_};
 ghost use Rattle.lists.specs.Lists.{tab};
 ghost use Rattle.block_decoder.specs.Internal.{signBy, tableSign};
 
-// The bit that has this weight in a symbol, XORed with key; bit 1 is a minus.
-fn sign(key: bool, weight: u16, symbol: u16) -> bool
-    ensures { λ r. ⌜ r ≡ signBy key weight symbol ⌝ }
+// The bit that has this value in a symbol, XORed with key; bit 1 is a minus.
+fn sign(key: bool, value: u8, symbol: u8) -> bool
+    ensures { λ r. ⌜ r ≡ signBy key value symbol ⌝ }
 {
-    let bit = symbol & weight != 0;
+    let bit = symbol & value != 0;
     bit != key
 }
 
 // The signs of the 64 symbols for character q.
-pub fn signs(q: usize, keys: &[u16; 64], weights: &[u16; 72], symbols: &[u16; 64]) -> [bool; 64]
+pub fn signs(q: usize, keys: &[u8; 64], values: &[u8; 72], symbols: &[u8; 64]) -> [bool; 64]
     requires { ⌜ q < 8 ⌝ }
-    ensures { λ r. ⌜ r ≡ tab (tableSign (now (keys .entry)) (now (weights .entry)) (now (symbols .entry)) q) 64 ⌝ }
+    ensures { λ r. ⌜ r ≡ tab (tableSign (now (keys .entry)) (now (values .entry)) (now (symbols .entry)) q) 64 ⌝ }
 {
     let mut signs = [false; 64];
     let mut t: usize = 0;
     while t < 64 {
-        signs[t] = sign((keys[t] >> q) % 2 == 1, weights[q + t], symbols[t]);
+        signs[t] = sign((keys[t] >> q) % 2 == 1, values[q + t], symbols[t]);
         t += 1;
     }
     signs

@@ -1,15 +1,21 @@
-// One block of the published chain, decoded: document 01, "Hearing a block".
+// One block of the published chain, decoded: document 01, "Hearing a block", and document 02, order 3.
 use decision::Character;
 use refusal::Refusal;
 use refusal::checks;
 ghost use mathlib.Core.Path.{_≡_};
 ghost use Prim.Native.Nat.{_≤_};
 ghost use lib.ListN.{length};
-ghost use Rattle.block_decoder.specs.Decoding.{refused, decodeBlock, decodedInto};
+ghost use Rattle.block_decoder.specs.Decoding.{refused, heardBlock, decodeBlock, decodeWeighted, heardBlockInto, decodedInto, weightedInto};
 ghost use Rattle.block_decoder.specs.Internal.{judgementIn};
 
 mod decode;
 mod interleaver;
+
+// The greatest weight that a board sends: document 02, order 3.
+pub const GREATEST_WEIGHT: u8 = 15;
+
+// The weight of every symbol in plain hearing.
+const PLAIN_WEIGHT: u8 = 1;
 
 // What stands where no character is decided.
 pub const NONE: Character = Character {
@@ -38,7 +44,46 @@ pub fn decode_block(mode: u32, least_lead: u32, tones: &[u16], codes: &mut [u8])
     ensures answer { λ r. ⌜ r ≡ decodeBlock mode «least_lead» (now (tones .entry)) (length (now (codes .entry))) ⌝ }
     ensures output { λ _. ⌜ now (codes .exit) ≡ decodedInto mode «least_lead» (now (tones .entry)) (now (codes .entry)) ⌝ }
 {
-    let decoded = decide_block(mode, least_lead, tones, codes.len());
+    let weights = [PLAIN_WEIGHT; 64];
+    hear(PLAIN_WEIGHT, mode, least_lead, tones, &weights, codes)
+}
+
+// Decodes 64 tones with a weight from 0 to 15 for each; the set lead is 1 to 960.
+pub fn decode_weighted(
+    mode: u32,
+    least_lead: u32,
+    tones: &[u16],
+    weights: &[u8],
+    codes: &mut [u8],
+) -> BlockDecoded
+    ensures answer { λ r. ⌜ r ≡ decodeWeighted mode «least_lead» (now (tones .entry)) (now (weights .entry)) (length (now (codes .entry))) ⌝ }
+    ensures output { λ _. ⌜ now (codes .exit) ≡ weightedInto mode «least_lead» (now (tones .entry)) (now (weights .entry)) (now (codes .entry)) ⌝ }
+{
+    hear(GREATEST_WEIGHT, mode, least_lead, tones, weights, codes)
+}
+
+// What decoding answers for an output of room codes; nothing is written.
+pub fn decide_block(mode: u32, least_lead: u32, tones: &[u16], room: usize) -> BlockDecoded
+    ensures { λ r. ⌜ r ≡ decodeBlock mode «least_lead» (now (tones .entry)) room ⌝ }
+{
+    let weights = [PLAIN_WEIGHT; 64];
+    decide(PLAIN_WEIGHT, mode, least_lead, tones, &weights, room)
+}
+
+// Decodes with weights from 0 to greatest.
+fn hear(
+    greatest: u8,
+    mode: u32,
+    least_lead: u32,
+    tones: &[u16],
+    weights: &[u8],
+    codes: &mut [u8],
+) -> BlockDecoded
+    requires { ⌜ greatest ≤ 15 ⌝ }
+    ensures answer { λ r. ⌜ r ≡ heardBlock greatest mode «least_lead» (now (tones .entry)) (now (weights .entry)) (length (now (codes .entry))) ⌝ }
+    ensures output { λ _. ⌜ now (codes .exit) ≡ heardBlockInto greatest mode «least_lead» (now (tones .entry)) (now (weights .entry)) (now (codes .entry)) ⌝ }
+{
+    let decoded = decide(greatest, mode, least_lead, tones, weights, codes.len());
     let answer = decoded.answer;
     match answer {
         Decoded::Text(count) => {
@@ -50,17 +95,27 @@ pub fn decode_block(mode: u32, least_lead: u32, tones: &[u16], codes: &mut [u8])
     }
 }
 
-// What decoding answers for an output of room codes; nothing is written.
-pub fn decide_block(mode: u32, least_lead: u32, tones: &[u16], room: usize) -> BlockDecoded
-    ensures { λ r. ⌜ r ≡ decodeBlock mode «least_lead» (now (tones .entry)) room ⌝ }
+fn decide(
+    greatest: u8,
+    mode: u32,
+    least_lead: u32,
+    tones: &[u16],
+    weights: &[u8],
+    room: usize,
+) -> BlockDecoded
+    requires { ⌜ greatest ≤ 15 ⌝ }
+    ensures { λ r. ⌜ r ≡ heardBlock greatest mode «least_lead» (now (tones .entry)) (now (weights .entry)) room ⌝ }
 {
     if !checks::is_mode(mode) {
         return refused(refusal::MODE, 0);
     }
-    if !checks::is_lead(least_lead) {
+    if !checks::is_lead_at(greatest, least_lead) {
         return refused(refusal::LEAST_LEAD, 0);
     }
     if tones.len() != 64 {
+        return refused(refusal::TONE_COUNT, 0);
+    }
+    if weights.len() != 64 {
         return refused(refusal::TONE_COUNT, 0);
     }
     let b = mode as usize;
@@ -71,7 +126,11 @@ pub fn decide_block(mode: u32, least_lead: u32, tones: &[u16], room: usize) -> B
     if bad < 64 {
         return refused(refusal::TONE, bad);
     }
-    let characters = decode::characters(mode, tones);
+    let bad_weight = weight_range::first_bad_weight(greatest, weights);
+    if bad_weight < 64 {
+        return refused(refusal::WEIGHT, bad_weight);
+    }
+    let characters = decode::characters(mode, tones, weights);
     let answer = judge(b, least_lead, characters);
     BlockDecoded { answer, characters }
 }

@@ -64,7 +64,7 @@ fn put_tones(mode: u32, codes: &[u8], tones: &mut [u16])
     let symbols = symbols::of_codes(mode, codes);
     let mut t: usize = 0;
     while t < 64 {
-        tones[t] = gray::tone_of(symbols[t]);
+        tones[t] = gray::tone_of(symbols[t] as u16);
         t += 1;
     }
 }

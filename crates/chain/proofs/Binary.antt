@@ -1,4 +1,4 @@
--- A number by its binary digits: the sum of the weights of its ones.
+-- A number by its binary digits: the sum of the values of its ones.
 use mathlib.Core.Path.{_≡_, sym, _∙_, ap}
 use mathlib.Core.Bool.{Bool, true, false, cond}
 use mathlib.Core.Logic.{⊎-elim}
@@ -15,12 +15,12 @@ use Rattle.walsh.proofs.Signs.{lowest-digit, odd-zero, odd-one}
 use Rattle.chain.specs.Chain.{bit}
 
 -- what digit i adds to the number
-abbrev pub weightOf : (ℕ → Bool) → ℕ → ℕ
-weightOf digits i = cond (digits i) (2 ^ i) 0
+abbrev pub digitValue : (ℕ → Bool) → ℕ → ℕ
+digitValue digits i = cond (digits i) (2 ^ i) 0
 
 -- the number of the digits below n
 abbrev pub numberOf : (ℕ → Bool) → ℕ → ℕ
-numberOf digits n = total n (weightOf digits)
+numberOf digits n = total n (digitValue digits)
 
 -- ---- one digit more, above a number x
 
@@ -62,14 +62,14 @@ module _ (digits : ℕ → Bool) where
   number-bit zero i h = absurd (omega arith)
   number-bit (suc n) i h = by (ℕ-discrete i n) (number-bit n i)
     where
-      by : Dec (i ≡ n) → (i < n → bit (numberOf digits n) i ≡ digits i) → bit (numberOf digits n + weightOf digits n) i ≡ digits i
+      by : Dec (i ≡ n) → (i < n → bit (numberOf digits n) i ≡ digits i) → bit (numberOf digits n + digitValue digits n) i ≡ digits i
       by (yes e) below = rw e (top-own (numberOf digits n) n (digits n) (number-below n))
       by (no ne) below = top-other (numberOf digits n) n (digits n) i (omega arith) ∙ below (omega arith)
 
 -- ---- any number is that of its digits
 
-digit-weight : (m w : ℕ) → m % 2 * w ≡ cond (odd m) w 0
-digit-weight m w =
+digit-value : (m w : ℕ) → m % 2 * w ≡ cond (odd m) w 0
+digit-value m w =
     ⊎-elim
     (λ e. ap (λ (d : ℕ). d * w) e ∙ omega arith ∙ ap (λ (d : Bool). cond d w 0) (sym (odd-zero m e)))
     (λ e. ap (λ (d : ℕ). d * w) e ∙ omega arith ∙ ap (λ (d : Bool). cond d w 0) (sym (odd-one m e)))
@@ -79,7 +79,7 @@ low-digits : (s n : ℕ) → s % 2 ^ n ≡ numberOf (bit s) n
 unfolding total
 low-digits s zero = mod-one s
 low-digits s (suc n) =
-    ap (λ (k : ℕ). s % 2 ^ k) (sym (one-add n)) ∙ omega (arith, mod-pow-add s 1 n, low-digits s n, digit-weight (s / 2 ^ n) (2 ^ n))
+    ap (λ (k : ℕ). s % 2 ^ k) (sym (one-add n)) ∙ omega (arith, mod-pow-add s 1 n, low-digits s n, digit-value (s / 2 ^ n) (2 ^ n))
 
 pub number-of-bits : (s n : ℕ) → s < 2 ^ n → s ≡ numberOf (bit s) n
 number-of-bits s n h = sym (mod-eq-of-lt h) ∙ low-digits s n

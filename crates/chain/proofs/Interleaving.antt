@@ -7,9 +7,9 @@ use native.Mathlib.Nat.{mod-add-mod, add-mul-mod-self-right, mod-eq-of-lt, mod-l
 use native.Mathlib.Omega.{arith}
 use Rattle.lists.specs.Lists.{num}
 use Rattle.lists.proofs.Sums.{total-ext, total-turned}
-use Rattle.chain.specs.Chain.{bit, sentBit, weightAt, symbolAt}
+use Rattle.chain.specs.Chain.{bit, sentBit, valueAt, symbolAt}
 use Rattle.chain.specs.Laws.{Interleaver}
-use Rattle.chain.proofs.Binary.{weightOf, numberOf, number-below, number-bit, number-of-bits}
+use Rattle.chain.proofs.Binary.{digitValue, numberOf, number-below, number-bit, number-of-bits}
 
 -- the character whose bit is at place i of symbol t
 sender : ℕ → ℕ → ℕ → ℕ
@@ -36,11 +36,11 @@ module _ (b : ℕ) (codes : List ℕ) (t : ℕ) where
   bit-at q h = ap (λ (k : ℕ). sentBit k (num codes k) t) (sender-of b t q h)
 
   symbol-number : symbolAt b codes t ≡ numberOf bitAt b
-  unfolding symbolAt weightAt
+  unfolding symbolAt valueAt
   symbol-number =
-      total-ext b (weightAt b codes t) (λ q. weightOf bitAt ((q + t) % b))
+      total-ext b (valueAt b codes t) (λ q. digitValue bitAt ((q + t) % b))
       (λ q h. ap (λ (d : Bool). cond d (2 ^ ((q + t) % b)) 0) (sym (bit-at q h)))
-      ∙ total-turned b t (weightOf bitAt)
+      ∙ total-turned b t (digitValue bitAt)
 
   symbol-fits : symbolAt b codes t < 2 ^ b
   symbol-fits = rw symbol-number (number-below bitAt b)
@@ -50,11 +50,11 @@ module _ (b : ℕ) (codes : List ℕ) (t : ℕ) where
 
   pub symbol-from-bits : (s : ℕ) → s < 2 ^ b
       → ((q : ℕ) → q < b → bit s ((q + t) % b) ≡ sentBit q (num codes q) t) → s ≡ symbolAt b codes t
-  unfolding symbolAt weightAt
+  unfolding symbolAt valueAt
   symbol-from-bits s h same =
       number-of-bits s b h
-      ∙ sym (total-turned b t (weightOf (bit s)))
-      ∙ total-ext b (λ q. weightOf (bit s) ((q + t) % b)) (weightAt b codes t)
+      ∙ sym (total-turned b t (digitValue (bit s)))
+      ∙ total-ext b (λ q. digitValue (bit s) ((q + t) % b)) (valueAt b codes t)
       (λ q l. ap (λ (d : Bool). cond d (2 ^ ((q + t) % b)) 0) (same q l))
 
 pub interleaver : Interleaver

@@ -4,4 +4,5 @@ pub mod Interleaving
 pub mod GrayCodes
 pub mod Keys
 pub mod Tones
-pub mod Weights
+pub mod Values
+pub mod Rows

@@ -33,12 +33,12 @@ unfoldable pub sentBit : ℕ → ℕ → ℕ → Bool
 sentBit q v t = turned (keyBit q t) (codeBit v t)
 
 -- what character q adds to symbol t: its bit becomes bit (q + t) mod b
-unfoldable pub weightAt : ℕ → List ℕ → ℕ → ℕ → ℕ
-weightAt b codes t q = cond (sentBit q (num codes q) t) (2 ^ ((q + t) % b)) 0
+unfoldable pub valueAt : ℕ → List ℕ → ℕ → ℕ → ℕ
+valueAt b codes t q = cond (sentBit q (num codes q) t) (2 ^ ((q + t) % b)) 0
 
 -- symbol t of the b codes
 unfoldable pub symbolAt : ℕ → List ℕ → ℕ → ℕ
-symbolAt b codes t = total b (weightAt b codes t)
+symbolAt b codes t = total b (valueAt b codes t)
 
 -- the Gray code of a symbol: symbol XOR (symbol shifted right by one)
 unfoldable pub gray : ℕ → ℕ

@@ -1,3 +1,4 @@
 pub mod Chain
 pub mod Tables
+pub mod Internal
 pub mod Laws

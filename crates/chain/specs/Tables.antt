@@ -1,4 +1,4 @@
--- The tables that go with the chain: the symbol of each tone, the key bits at each place, and the weights of the places in a symbol.
+-- The tables that go with the chain: the symbol of each tone, the key bits at each place, and the values of the places in a symbol.
 use mathlib.Core.Bool.{cond}
 use mathlib.Core.List.{List}
 use Prim.Native.Nat.{ℕ, _%_, _^_}
@@ -17,10 +17,10 @@ symbolOf g = first (λ s. eqb (gray s) g) 256
 unfoldable pub keysAt : ℕ → ℕ
 keysAt t = total 8 (λ q. cond (keyBit q t) (2 ^ q) 0)
 
--- the weight of bit i mod b of a symbol; that of character q in symbol t is at i = q + t
-unfoldable pub placeWeight : ℕ → ℕ → ℕ
-placeWeight b i = 2 ^ (i % b)
+-- the value of bit i mod b of a symbol; that of character q in symbol t is at i = q + t
+unfoldable pub placeValue : ℕ → ℕ → ℕ
+placeValue b i = 2 ^ (i % b)
 
--- the weights that the characters of a block take; all 0 if b is no mode
-unfoldable pub weightsOf : ℕ → List ℕ
-weightsOf b = tab (λ i. cond (isMode b) (placeWeight b i) 0) 72
+-- the values that the characters of a block take; all 0 if b is no mode
+unfoldable pub placeValues : ℕ → List ℕ
+placeValues b = tab (λ i. cond (isMode b) (placeValue b i) 0) 72

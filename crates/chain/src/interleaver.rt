@@ -1,34 +1,79 @@
 // The places of a block's characters in its symbols: the bit of character q at t is bit (q + t) mod b of symbol t.
 use refusal::checks;
-ghost use mathlib.Core.Bool.{cond};
 ghost use mathlib.Core.Path.{_≡_};
-ghost use Rattle.refusal.specs.Checks.{isMode};
-ghost use Rattle.chain.specs.Tables.{weightsOf};
+ghost use Prim.Native.Nat.{_≤_};
+ghost use lib.ListN.{take};
+ghost use Rattle.lists.specs.Lists.{tab};
+ghost use Rattle.chain.specs.Tables.{placeValue, placeValues};
+ghost use Rattle.chain.specs.Internal.{WholeRounds, again};
 
-// The weights of the places, round and round: that of character q in symbol t is entry q + t. All are 0 if there is no such mode.
-pub fn weights(mode: u32) -> [u16; 72]
-    ensures { λ r. ⌜ r ≡ weightsOf mode ⌝ }
+// The values of the places, round and round: that of character q in symbol t is entry q + t. All are 0 if there is no such mode.
+pub fn values(mode: u32) -> [u8; 72]
+    ensures { λ r. ⌜ r ≡ placeValues mode ⌝ }
 {
-    let b = bits(mode);
-    let mut weights = [0u16; 72];
-    let mut i: usize = 0;
-    while i < b {
-        weights[i] = 1u16 << i;
-        i += 1;
+    if !checks::is_mode(mode) {
+        return [0u8; 72];
     }
-    while i < 72 {
-        weights[i] = weights[i - b];
-        i += 1;
-    }
-    weights
+    let b = mode as usize;
+    front(rows(step(b), row(b)))
 }
 
-// The bits of a symbol, 0 if there is no such mode.
-fn bits(mode: u32) -> usize
-    ensures { λ r. ⌜ r ≡ cond (isMode mode) mode 0 ⌝ }
+// The values of the first eight places.
+fn row(b: usize) -> [u8; 8]
+    requires { ⌜ (1 ≤ b) × (b ≤ 8) ⌝ }
+    ensures { λ r. ⌜ r ≡ tab (placeValue b) 8 ⌝ }
 {
-    if checks::is_mode(mode) {
-        return mode as usize;
+    let mut row = [0u8; 8];
+    let mut i: usize = 0;
+    while i < 8 {
+        if i < b {
+            row[i] = 1u8 << i;
+        } else {
+            row[i] = row[i - b];
+        }
+        i += 1;
     }
-    0
+    row
+}
+
+// The whole rounds of b places in eight: a row fits on again so many places further.
+fn step(b: usize) -> usize
+    requires { ⌜ (1 ≤ b) × (b ≤ 8) ⌝ }
+    ensures { λ r. ⌜ WholeRounds b r ⌝ }
+{
+    if b == 3 {
+        return 6;
+    }
+    if b < 5 { 8 } else { b }
+}
+
+// Row after row, each over the tail of the one before: eight places at a time go faster than one.
+fn rows(step: usize, row: [u8; 8]) -> [u8; 80]
+    requires { ⌜ (1 ≤ step) × (step ≤ 8) ⌝ }
+    ensures { λ r. ⌜ take 72 r ≡ again step row 72 ⌝ }
+{
+    let mut values = [0u8; 80];
+    let mut at: usize = 0;
+    while at < 72 {
+        let mut j: usize = 0;
+        while j < 8 {
+            values[at + j] = row[j];
+            j += 1;
+        }
+        at += step;
+    }
+    values
+}
+
+// The first 72; what stands past them is no whole row.
+fn front(all: [u8; 80]) -> [u8; 72]
+    ensures { λ r. ⌜ r ≡ take 72 all ⌝ }
+{
+    let mut values = [0u8; 72];
+    let mut i: usize = 0;
+    while i < 72 {
+        values[i] = all[i];
+        i += 1;
+    }
+    values
 }

@@ -5,7 +5,7 @@ ghost use Rattle.chain.specs.Chain.{codeBit};
 ghost use Rattle.chain.specs.Tables.{keysAt};
 
 // Bit q of the entry at place t is the key bit of character q at t: bit (13 × q + t) mod 64 of E257E6D0291574EC, hexadecimal.
-const KEYS: [u16; 64] = [
+const KEYS: [u8; 64] = [
     218,
     38,
     249,
@@ -73,7 +73,7 @@ const KEYS: [u16; 64] = [
 ];
 
 // The key bits of all characters at each place.
-pub fn keys() -> [u16; 64]
+pub fn keys() -> [u8; 64]
     ensures { λ r. ⌜ r ≡ tab keysAt 64 ⌝ }
 {
     KEYS

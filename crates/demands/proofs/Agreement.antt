@@ -14,9 +14,9 @@ use Rattle.damage.specs.Damage.{sent}
 use Rattle.walsh.proofs.Signed.{abs-signed, signed-twice}
 use Rattle.walsh.proofs.Sizes.{corr-within}
 use Rattle.decision.proofs.Choice.{decision-law, nearest}
-use Rattle.block_decoder.specs.Decoding.{symbolsOf, countIn, characterAt}
+use Rattle.block_decoder.specs.Decoding.{plain, symbolsOf, countIn, weightedAt}
 use Rattle.demands.specs.Laws.{Range}
-use Rattle.demands.proofs.Hearings.{count-within}
+use Rattle.demands.proofs.Hearings.{plain-within}
 
 sum-small : (n : ℕ) (f : ℕ → ℤ) → ((t : ℕ) → natAbs (f t) ≤ 1) → natAbs (sum n f) ≤ n
 sum-small n f h = omega (arith, abs-sum n f, total-within n 1 (λ t. natAbs (f t)) (λ t l. h t))
@@ -99,8 +99,8 @@ module _ (h : ℕ → ℤ) (small : (t : ℕ) → natAbs (h t) ≤ 1) where
       }
 
 pub range : Range
-unfolding characterAt
+unfolding weightedAt
 range = record {
-  correlations = λ b tones q. corr-small (countIn b (symbolsOf tones) q) (count-within b (symbolsOf tones) q);
-  leads = λ b tones q. lead-high (countIn b (symbolsOf tones) q) (count-within b (symbolsOf tones) q);
+  correlations = λ b tones q. corr-small (countIn b (symbolsOf tones) plain q) (plain-within b (symbolsOf tones) q);
+  leads = λ b tones q. lead-high (countIn b (symbolsOf tones) plain q) (plain-within b (symbolsOf tones) q);
 }

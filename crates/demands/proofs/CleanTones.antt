@@ -26,15 +26,17 @@ use Rattle.chain.proofs.GrayCodes.{gray-code, symbol-below, symbol-marked}
 use Rattle.chain.proofs.Interleaving.{symbol-from-bits}
 use Rattle.tone_range.specs.Range.{HasTones}
 use Rattle.tone_range.proofs.Ranges.{in-range-tones}
+use Rattle.weight_range.proofs.Ranges.{weight-throughout}
 use Rattle.block_encoder.specs.Encoding.{IsText}
 use Rattle.block_encoder.proofs.EncodeCases.{tones-written}
-use Rattle.block_decoder.specs.Decoding.{heardSymbol, symbolsOf, countOf, countIn, characterAt, charactersOf, codesOf, leadIn, decodeBlock}
+use Rattle.block_decoder.specs.Decoding.{plain, heardSymbol, symbolsOf, countOf, countIn, weightedAt, characterAt, charactersOf, codesOf, leadIn, decodeBlock}
 use Rattle.block_decoder.specs.declared.Decoded.the-variants.{Text}
 use Rattle.block_decoder.specs.declared.BlockDecoded.{BlockDecoded}
+use Rattle.block_decoder.proofs.Counts.{heard-present, heard-missing, symbol-heard, count-missing, count-present}
 use Rattle.block_decoder.proofs.Characters.{character-padded, codes-are, codes-length}
 use Rattle.block_decoder.proofs.DecodeCases.{Accepted, accepted, judges}
 use Rattle.demands.specs.Laws.{AreClean, CleanBack, Clean}
-use Rattle.demands.proofs.Hearings.{wordOf, signOf, sent-code, count-missing, count-present, count-within, heard-missing, heard-present, symbol-heard}
+use Rattle.demands.proofs.Hearings.{wordOf, signOf, sent-code, plain-within}
 use Rattle.demands.proofs.Agreement.{CleanCounts, clean-counts}
 use Rattle.demands.proofs.Answers.{written-text}
 use Rattle.demands.proofs.Sent.{sends}
@@ -61,19 +63,19 @@ signed-none : (a : Bool) → pos 0 ≡ signed a (pos 1) → ⊥
 signed-none true e = let z : _≡_ {A = ℕ} 0 1 = cc in omega arith
 signed-none false e = let z : _≡_ {A = ℕ} 0 1 = cc in omega arith
 
-module _ (k : Bool) (place tone : ℕ) (v : Bool) (e : countOf k place (heardSymbol tone) ≡ signed v (pos 1)) where
+module _ (k : Bool) (place tone : ℕ) (v : Bool) (e : countOf k place 1 (heardSymbol tone) ≡ signed v (pos 1)) where
   counted-present : eqb tone missingMark ≡ false
   counted-present = by (eqb tone missingMark) refl
     where
       by : (u : Bool) → eqb tone missingMark ≡ u → u ≡ false
-      by true p = absurd (signed-none v (sym (ap (countOf k place) (heard-missing tone p) ∙ count-missing k place) ∙ e))
+      by true p = absurd (signed-none v (sym (ap (countOf k place 1) (heard-missing tone p) ∙ count-missing k place 1) ∙ e))
       by false p = refl
 
   counted-bit : bit (symbolOf tone) place ≡ turned k v
   counted-bit =
       sym (turned-twice k (bit (symbolOf tone) place))
       ∙ ap (turned k) (signed-same (turned k (bit (symbolOf tone) place)) v
-      (sym (ap (countOf k place) (heard-present tone counted-present) ∙ count-present k place (symbolOf tone) (symbol-marked tone)) ∙ e))
+      (sym (ap (countOf k place 1) (heard-present tone counted-present) ∙ count-present k place 1 (symbolOf tone) (symbol-marked tone)) ∙ e))
 
 -- ---- a block with every lead 64
 
@@ -82,31 +84,31 @@ abbrev pub decidedText : ℕ → List ℕ → List ℕ
 decidedText b tones = codesOf (charactersOf b tones)
 
 module _ (b : ℕ) (tones : List ℕ) (low : 1 ≤ b) (high : b ≤ 8) (w : HasTones (2 ^ b) tones) (clean : (q : ℕ) → q < b → characterAt b tones q .lead ≡ 64) where
-  clean-at : (q : ℕ) → q < b → CleanCounts (countIn b (symbolsOf tones) q) (count-within b (symbolsOf tones) q)
-  unfolding characterAt
-  clean-at q h = clean-counts (countIn b (symbolsOf tones) q) (count-within b (symbolsOf tones) q) (clean q h)
+  clean-at : (q : ℕ) → q < b → CleanCounts (countIn b (symbolsOf tones) plain q) (plain-within b (symbolsOf tones) q)
+  unfolding weightedAt
+  clean-at q h = clean-counts (countIn b (symbolsOf tones) plain q) (plain-within b (symbolsOf tones) q) (clean q h)
 
   code-at : (q : ℕ) → q < b → num (decidedText b tones) q ≡ characterAt b tones q .code
-  code-at q h = rw (codes-are b tones) (tab-at (λ k. characterAt b tones k .code) 0 b q h)
+  code-at q h = rw (codes-are b tones plain) (tab-at (λ k. characterAt b tones k .code) 0 b q h)
 
   pub clean-text : IsText b (decidedText b tones)
-  unfolding characterAt
+  unfolding weightedAt
   clean-text = record {
-    count = codes-length b tones;
+    count = codes-length b tones plain;
     codes = λ q h. let c = clean-at q h in rw (code-at q h, c .code) (code-below (c .word) (c .sign) (c .below));
   }
 
   -- every count is that of the character's code
-  count-clean : (q t : ℕ) → q < b → t < 64 → countOf (keyBit q t) ((q + t) % b) (heardSymbol (num tones t)) ≡ signed (codeBit (num (decidedText b tones) q) t) (pos 1)
-  unfolding countIn characterAt
+  count-clean : (q t : ℕ) → q < b → t < 64 → countOf (keyBit q t) ((q + t) % b) 1 (heardSymbol (num tones t)) ≡ signed (codeBit (num (decidedText b tones) q) t) (pos 1)
+  unfolding countIn weightedAt
   count-clean q t h l =
       let c = clean-at q h in
       let p = code-word (c .word) (c .sign) (c .below) in
       let e : num (decidedText b tones) q ≡ codeOf (c .word) (c .sign) = code-at q h ∙ c .code in
-      ap (countOf (keyBit q t) ((q + t) % b)) (sym (symbol-heard tones t l))
+      ap₂ (countOf (keyBit q t) ((q + t) % b)) (sym (weight-throughout 1 t l)) (sym (symbol-heard tones t l))
       ∙ c .counts t l
       ∙ ap₂ (λ (x : ℕ) (s : Bool). sent 1 x s t) (sym (p .0)) (sym (p .1))
-      ∙ sent-code (codeOf (c .word) (c .sign)) t
+      ∙ sent-code 1 (codeOf (c .word) (c .sign)) t
       ∙ ap (λ (v : ℕ). signed (codeBit v t) (pos 1)) (sym e)
 
   tone-clean : (t : ℕ) → t < 64 → num tones t ≡ toneAt b (decidedText b tones) t
@@ -125,7 +127,7 @@ module _ (b : ℕ) (tones : List ℕ) (low : 1 ≤ b) (high : b ≤ 8) (w : HasT
 
 module _ (b m : ℕ) (tones codes sent : List ℕ) (answer : decodeBlock b m tones (length codes) .answer ≡ Text b)
     (clean : AreClean b (decodeBlock b m tones (length codes) .characters)) (room : 64 ≤ length sent)
-    (a : Accepted b m tones (length codes) b) where
+    (a : Accepted 1 b m tones plain (length codes) b) where
   mode : isMode b ≡ true
   mode = a .passed .mode
 
@@ -134,8 +136,8 @@ module _ (b m : ℕ) (tones codes sent : List ℕ) (answer : decodeBlock b m ton
 
   decided-leads : (q : ℕ) → q < b → characterAt b tones q .lead ≡ 64
   decided-leads q h =
-      ap (λ (c : Character). c .lead) (sym (character-padded b tones q h))
-      ∙ ap (λ (d : BlockDecoded). leadIn (d .characters) q) (sym (judges b m tones (length codes) (a .passed) (a .in-range)))
+      ap (λ (c : Character). c .lead) (sym (character-padded b tones plain q h))
+      ∙ ap (λ (d : BlockDecoded). leadIn (d .characters) q) (sym (judges 1 b m tones plain (length codes) (a .passed) (a .in-range) (a .weights-in-range)))
       ∙ clean .leads q h
 
   clean-back : CleanBack b m tones codes sent
@@ -152,5 +154,5 @@ module _ (b m : ℕ) (tones codes sent : List ℕ) (answer : decodeBlock b m ton
 
 pub clean : Clean
 clean = record {
-  back = λ b m tones codes sent answer clean room. clean-back b m tones codes sent answer clean room (accepted b m tones (length codes) b answer);
+  back = λ b m tones codes sent answer clean room. clean-back b m tones codes sent answer clean room (accepted 1 b m tones plain (length codes) b answer);
 }

@@ -1,79 +1,115 @@
--- Demand 3, and that a text encoded and decoded comes back with every lead 64.
-use mathlib.Core.Path.{_≡_, refl, _∙_, ap}
+-- Demand 3, for any greatest weight, and plain; and that a text encoded and decoded comes back with every lead 64.
+use mathlib.Core.Path.{_≡_, _∙_, ap}
 use mathlib.Core.Bool.{Bool, true, false, not, _&&_}
 use mathlib.Core.List.{List}
 use mathlib.Core.Logic.{_⊎_, inl, inr}
 use Prim.Native.Nat.{ℕ, zero, suc, _+_, _*_, _<_, _≤_, _^_}
 use native.Mathlib.Decide.{decLt}
 use native.Mathlib.Omega.{arith}
-use borrow.Author.Tests.{eq-eqb}
 use lib.Dec.{ltb, eqb}
 use lib.ListN.{length}
 use Rattle.lists.specs.Lists.{num}
 use Rattle.lists.specs.Sums.{total}
-use Rattle.lists.proofs.Sums.{total-zero}
 use Rattle.lists.proofs.Tables.{tab-ext}
-use Rattle.refusal.specs.Checks.{isMode, IsSet}
-use Rattle.refusal.proofs.Limits.{mode-range, lead-range}
+use Rattle.refusal.specs.Checks.{isLeadAt, isMode}
+use Rattle.refusal.proofs.Limits.{within-range, mode-range}
 use Rattle.damage.specs.Laws.{Withstands}
 use Rattle.decision.specs.declared.Character.{Character}
 use Rattle.damage.proofs.Drift.{damage-law}
 use Rattle.chain.specs.Chain.{tonesOf}
 use Rattle.chain.proofs.Tones.{tones-length, tone-sent, tone-below}
 use Rattle.tone_range.specs.Range.{HasTones}
+use Rattle.weight_range.specs.Range.{HasWeights, throughout}
+use Rattle.weight_range.proofs.Ranges.{has-throughout}
 use Rattle.block_encoder.specs.Encoding.{IsText}
 use Rattle.block_encoder.proofs.EncodeCases.{tones-written}
-use Rattle.block_decoder.specs.Decoding.{symbolsOf, countIn, characterAt, charactersOf, none, leadIn, firstUnclear, padded, decodeBlock, decodedInto}
+use Rattle.block_decoder.specs.Decoding.{plain, symbolsOf, countIn, weightedAt, weightedOf, characterAt, none, leadIn, firstUnclear, padded, heardBlock, heardBlockInto}
 use Rattle.block_decoder.specs.declared.BlockDecoded.{BlockDecoded}
 use Rattle.block_decoder.proofs.Characters.{characters-length, character-at}
 use Rattle.block_decoder.proofs.Clarity.{all-clear, clear-lead}
-use Rattle.block_decoder.proofs.Answers.{decided}
-use Rattle.demands.specs.Demand.{flag, isMissing, isReplaced, missingIn, replacedIn, Gives, RefusesAsUnclear, Demand3}
+use Rattle.block_decoder.proofs.DecodeCases.{Passed}
+use Rattle.block_decoder.proofs.Answers.{passed, decided}
+use Rattle.demands.specs.Demand.{flag, isMissing, isReplaced, missingIn, replacedIn, damageIn, Gives, RefusesAsUnclear, Demand3}
 use Rattle.demands.specs.Laws.{undamaged, RoundTrip}
-use Rattle.demands.proofs.Hearings.{wordOf, signOf, word-below, code-of-word, tone-present, block-damage}
+use Rattle.demands.proofs.Hearings.{wordOf, signOf, word-below, code-of-word, block-damage, no-damage, plain-damage}
 use Rattle.demands.proofs.Undamaged.{heard-undamaged}
 use Rattle.demands.proofs.Sent.{sends, air-sent}
 use Rattle.demands.proofs.Answers.{refuses, gives}
 
--- ---- one character of a damaged block
+-- ---- one character of a damaged block, with weights up to N
 
-module _ (b m : ℕ) (text heard : List ℕ) (s : IsSet b m) (codes : IsText b text) (n : length heard ≡ 64) (q : ℕ) (hq : q < b) where
-  high : b ≤ 8
-  high = mode-range b (s .mode) .1
+module _ (N b m : ℕ) (text heard weights : List ℕ) (high : b ≤ 8) (low : 1 ≤ m) (codes : IsText b text) (n : length heard ≡ 64)
+    (weighed : HasWeights N weights) (q : ℕ) (hq : q < b) where
+  law : Withstands N (wordOf (num text q)) (signOf (num text q)) (countIn b (symbolsOf heard) weights q) m
+  law = damage-law .withstands N (wordOf (num text q)) (signOf (num text q)) (countIn b (symbolsOf heard) weights q) m (word-below (num text q) (codes .codes q hq)) low
 
-  law : Withstands 1 (wordOf (num text q)) (signOf (num text q)) (countIn b (symbolsOf heard) q) m
-  law = damage-law .withstands 1 (wordOf (num text q)) (signOf (num text q)) (countIn b (symbolsOf heard) q) m (word-below (num text q) (codes .codes q hq)) (lead-range m (s .lead) .0)
-
-  pub code-decided : m + 2 * missingIn heard + 4 * replacedIn (tonesOf b text) heard ≤ 64
-      → (characterAt b heard q .code ≡ num text q) × (m ≤ characterAt b heard q .lead)
-  unfolding characterAt
+  code-decided : m + 2 * damageIn N (tonesOf b text) heard weights ≤ 64 * N
+      → (weightedAt b heard weights q .code ≡ num text q) × (m ≤ weightedAt b heard weights q .lead)
+  unfolding weightedAt
   code-decided h =
-      let d = law .decided (omega (arith, block-damage b text heard high q hq n)) in
+      let d = law .decided (omega (arith, block-damage N b text heard weights high weighed q hq n)) in
       (d .0 ∙ code-of-word (num text q), d .1)
 
-  pub code-no-other : 2 * missingIn heard + 4 * replacedIn (tonesOf b text) heard < 64 + m → m ≤ characterAt b heard q .lead
-      → characterAt b heard q .code ≡ num text q
-  unfolding characterAt
-  code-no-other h l = law .no-other (omega (arith, block-damage b text heard high q hq n)) l ∙ code-of-word (num text q)
+  code-no-other : 2 * damageIn N (tonesOf b text) heard weights < 64 * N + m → m ≤ weightedAt b heard weights q .lead
+      → weightedAt b heard weights q .code ≡ num text q
+  unfolding weightedAt
+  code-no-other h l = law .no-other (omega (arith, block-damage N b text heard weights high weighed q hq n)) l ∙ code-of-word (num text q)
+
+-- ---- a damaged block
+
+module _ (N b m : ℕ) (text heard weights codes : List ℕ) (p : Passed N b m (length heard) (length weights) (length codes)) (is-text : IsText b text)
+    (w : HasTones (2 ^ b) heard) (weighed : HasWeights N weights) where
+  abbrev characters : List Character
+  characters = weightedOf b heard weights
+
+  lead-heard : (q : ℕ) → q < b → leadIn characters q ≡ weightedAt b heard weights q .lead
+  lead-heard q l = ap (λ (c : Character). c .lead) (character-at b heard weights q l)
+
+  high : b ≤ 8
+  high = mode-range b (p .mode) .1
+
+  low : 1 ≤ m
+  low = within-range 1 (64 * N) m (p .lead) .0
+
+  abbrev given : Type 0
+  given = Gives b text (heardBlock N b m heard weights (length codes)) codes (heardBlockInto N b m heard weights codes)
+
+  pub same-text : m + 2 * damageIn N (tonesOf b text) heard weights ≤ 64 * N → given
+  same-text g =
+      gives N b m heard weights codes p w weighed text (is-text .count)
+      (λ q l. code-decided N b m text heard weights high low is-text (w .count) weighed q l g .0)
+      (all-clear m characters
+      (λ q l.
+      let k : q < b = omega (arith, characters-length b heard weights) in
+      omega (arith, lead-heard q k, code-decided N b m text heard weights high low is-text (w .count) weighed q k g .1)))
+
+  pub no-other-text : 2 * damageIn N (tonesOf b text) heard weights < 64 * N + m
+      → given ⊎ RefusesAsUnclear b m (heardBlock N b m heard weights (length codes)) codes (heardBlockInto N b m heard weights codes)
+  no-other-text g = by (decLt (firstUnclear m characters) b)
+    where
+      by : Dec (firstUnclear m characters < b)
+          → given ⊎ RefusesAsUnclear b m (heardBlock N b m heard weights (length codes)) codes (heardBlockInto N b m heard weights codes)
+      by (yes l) = inr (refuses N b m heard weights codes p w weighed l)
+      by (no n) =
+          let clear : length characters ≤ firstUnclear m characters = omega (arith, characters-length b heard weights) in
+          inl (gives N b m heard weights codes p w weighed text (is-text .count)
+          (λ q l. code-no-other N b m text heard weights high low is-text (w .count) weighed q l g
+          (omega (arith, lead-heard q l, clear-lead m characters clear q (omega (arith, characters-length b heard weights)))))
+          clear)
 
 -- ---- the block as encoded, heard undamaged
 
-module _ (b : ℕ) (text : List ℕ) where
-  pub sent-tones : HasTones (2 ^ b) (tonesOf b text)
-  sent-tones = record { count = tones-length b text; each = λ t l. inl (rw (tone-sent b text t l) (tone-below b text t)) }
+pub sent-tones : (b : ℕ) (text : List ℕ) → HasTones (2 ^ b) (tonesOf b text)
+sent-tones b text = record { count = tones-length b text; each = λ t l. inl (rw (tone-sent b text t l) (tone-below b text t)) }
 
-  none-missing : b ≤ 8 → missingIn (tonesOf b text) ≡ 0
-  unfolding missingIn
-  none-missing mode = rw (tones-length b text) (total-zero 64 _ (λ t l. rw (tone-sent b text t l, tone-present b text t mode)))
-
-none-replaced : (tones : List ℕ) → replacedIn tones tones ≡ 0
-unfolding replacedIn
-none-replaced tones = total-zero (length tones) _ (λ t l. rw (eq-eqb (num tones t) (num tones t) refl) (by (ltb t (length tones)) (isMissing tones t)))
-  where
-    by : (p u : Bool) → flag (p && (not u && false)) ≡ 0
-    by true true = refl
-    by true false = refl
-    by false u = refl
+pub sent-text : (N b m : ℕ) (text codes : List ℕ) → isMode b ≡ true → isLeadAt N m ≡ true → IsText b text → b ≤ length codes
+    → Gives b text (heardBlock N b m (tonesOf b text) (throughout N) (length codes)) codes (heardBlockInto N b m (tonesOf b text) (throughout N) codes)
+sent-text N b m text codes mode lead is-text h =
+    let full = has-throughout N N (omega arith) in
+    same-text N b m text (tonesOf b text) (throughout N) codes
+    (record { mode = mode; lead = lead; count = tones-length b text; weighed = full .count; fits = h })
+    is-text (sent-tones b text) full
+    (omega (arith, no-damage N b text (mode-range b mode .1), within-range 1 (64 * N) m lead .1))
 
 -- ---- the demand
 
@@ -95,73 +131,42 @@ damage-places : (sent heard : List ℕ) → length heard ≡ 64 → replacedIn s
 unfolding replacedIn missingIn
 damage-places sent heard n = omega (arith, places-counted sent heard (length heard))
 
-module _ (b m : ℕ) (text heard codes : List ℕ) (s : IsSet b m) (is-text : IsText b text) (w : HasTones (2 ^ b) heard) (h : b ≤ length codes) where
-  lead-heard : (q : ℕ) → q < b → leadIn (charactersOf b heard) q ≡ characterAt b heard q .lead
-  lead-heard q l = ap (λ (c : Character). c .lead) (character-at b heard q l)
-
-  pub same-text : m + 2 * missingIn heard + 4 * replacedIn (tonesOf b text) heard ≤ 64
-      → Gives b text (decodeBlock b m heard (length codes)) codes (decodedInto b m heard codes)
-  same-text g =
-      gives b m heard codes s w h text (is-text .count)
-      (λ q l. code-decided b m text heard s is-text (w .count) q l g .0)
-      (all-clear m (charactersOf b heard)
-      (λ q l. let k : q < b = omega (arith, characters-length b heard) in omega (arith, lead-heard q k, code-decided b m text heard s is-text (w .count) q k g .1)))
-
-  no-other-text : 2 * missingIn heard + 4 * replacedIn (tonesOf b text) heard < 64 + m
-      → Gives b text (decodeBlock b m heard (length codes)) codes (decodedInto b m heard codes)
-      ⊎ RefusesAsUnclear b m (decodeBlock b m heard (length codes)) codes (decodedInto b m heard codes)
-  no-other-text g = by (decLt (firstUnclear m (charactersOf b heard)) b)
-    where
-      by : Dec (firstUnclear m (charactersOf b heard) < b)
-          → Gives b text (decodeBlock b m heard (length codes)) codes (decodedInto b m heard codes)
-          ⊎ RefusesAsUnclear b m (decodeBlock b m heard (length codes)) codes (decodedInto b m heard codes)
-      by (yes l) = inr (refuses b m heard codes s w h l)
-      by (no n) =
-          let clear : length (charactersOf b heard) ≤ firstUnclear m (charactersOf b heard) = omega (arith, characters-length b heard) in
-          inl (gives b m heard codes s w h text (is-text .count)
-          (λ q l. code-no-other b m text heard s is-text (w .count) q l g
-          (omega (arith, lead-heard q l, clear-lead m (charactersOf b heard) clear q (omega (arith, characters-length b heard)))))
-          clear)
-
--- the undamaged block gives the text
-sent-text : (b m : ℕ) (text codes : List ℕ) → IsSet b m → IsText b text → b ≤ length codes
-    → Gives b text (decodeBlock b m (tonesOf b text) (length codes)) codes (decodedInto b m (tonesOf b text) codes)
-sent-text b m text codes s is-text h =
-    same-text b m text (tonesOf b text) codes s is-text (sent-tones b text) h
-    (omega (arith, none-missing b text (mode-range b (s .mode) .1), none-replaced (tonesOf b text), lead-range m (s .lead) .1))
-
 pub demand3 : Demand3
 demand3 = record {
   met = λ b m text heard tones one two c.
       let sent = sends b text tones (c .settings .mode) (c .codes) (c .room-sent) in
+      let full = has-throughout 1 1 (omega arith) in
+      let p = passed b m heard (length two) (c .settings) (c .damaged .count) (c .room-two) in
+      let at-most = plain-damage (tonesOf b text) heard (c .damaged .count) in
       record {
         accepted = sent;
         sent = tones-written b text tones sent;
-        first = sent-text b m text one (c .settings) (c .codes) (c .room-one);
+        first = sent-text 1 b m text one (c .settings .mode) (c .settings .lead) (c .codes) (c .room-one);
         places = damage-places (tonesOf b text) heard (c .damaged .count);
-        same = same-text b m text heard two (c .settings) (c .codes) (c .damaged) (c .room-two);
-        no-other = no-other-text b m text heard two (c .settings) (c .codes) (c .damaged) (c .room-two);
+        same = λ g. same-text 1 b m text heard plain two p (c .codes) (c .damaged) full (omega (arith, at-most));
+        no-other = λ g. no-other-text 1 b m text heard plain two p (c .codes) (c .damaged) full (omega (arith, at-most));
       };
 }
 
 -- ---- the round trip
 
 pub sent-character : (b : ℕ) (text : List ℕ) (q : ℕ) → isMode b ≡ true → IsText b text → q < b → characterAt b (tonesOf b text) q ≡ undamaged (num text q)
-unfolding characterAt
+unfolding weightedAt
 sent-character b text q mode is-text hq =
     let high : b ≤ 8 = mode-range b mode .1 in
-    heard-undamaged (num text q) (is-text .codes q hq) (countIn b (symbolsOf (tonesOf b text)) q)
-    (omega (arith, block-damage b text (tonesOf b text) high q hq (tones-length b text), none-missing b text high, none-replaced (tonesOf b text)))
+    let full = has-throughout 1 1 (omega arith) in
+    heard-undamaged (num text q) (is-text .codes q hq) (countIn b (symbolsOf (tonesOf b text)) plain q)
+    (omega (arith, block-damage 1 b text (tonesOf b text) plain high full q hq (tones-length b text), no-damage 1 b text high))
 
 pub round-trip : RoundTrip
-unfolding charactersOf
+unfolding weightedOf
 round-trip = record {
   back = λ b m text tones out s is-text room-sent room-heard.
       let sent = sends b text tones (s .mode) is-text room-sent in
       let on-air = air-sent b text tones sent in
       record {
         sent = sent;
-        given = rw on-air (sent-text b m text out s is-text room-heard);
+        given = rw on-air (sent-text 1 b m text out (s .mode) (s .lead) is-text room-heard);
         characters =
             rw on-air
             (ap (λ (d : BlockDecoded). d .characters) (decided b m (tonesOf b text) (length out) s (sent-tones b text) room-heard)

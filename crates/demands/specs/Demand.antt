@@ -4,7 +4,7 @@ use mathlib.Core.Path.{_≡_}
 use mathlib.Core.Bool.{Bool, cond, not, _&&_}
 use mathlib.Core.List.{List}
 use mathlib.Core.Logic.{_⊎_}
-use Prim.Native.Nat.{ℕ, _+_, _*_, _<_, _≤_, _^_}
+use Prim.Native.Nat.{ℕ, _+_, _-_, _*_, _<_, _≤_, _^_}
 use lib.Dec.{ltb, eqb}
 use lib.ListN.{length}
 use Rattle.lists.specs.Lists.{num, over}
@@ -38,6 +38,16 @@ missingIn heard = total (length heard) (λ t. flag (isMissing heard t))
 
 unfoldable pub replacedIn : List ℕ → List ℕ → ℕ
 replacedIn sent heard = total (length heard) (λ t. flag (isReplaced sent heard t))
+
+-- with weights up to N, what a missing tone, a replaced one and a right one add to document 02's D
+unfoldable pub damageAt : ℕ → List ℕ → List ℕ → List ℕ → ℕ → ℕ
+damageAt N sent heard weights t =
+    cond (isMissing heard t) N
+    (cond (isReplaced sent heard t) (N + num weights t)
+    (N - num weights t))
+
+unfoldable pub damageIn : ℕ → List ℕ → List ℕ → List ℕ → ℕ
+damageIn N sent heard weights = total (length heard) (damageAt N sent heard weights)
 
 -- ---- what the demand covers
 

@@ -15,8 +15,9 @@ use Rattle.chain.specs.Chain.{missingMark}
 use Rattle.tone_range.specs.Range.{HasTones}
 use Rattle.block_encoder.specs.Encoding.{IsText, encodeBlock, encodedInto, onAir}
 use Rattle.block_encoder.specs.declared.Encoded.the-variants.{Tones}
-use Rattle.block_decoder.specs.Decoding.{symbolsOf, countIn, characterAt, leadIn, padded, decodeBlock, decodedInto}
+use Rattle.block_decoder.specs.Decoding.{plain, symbolsOf, countIn, characterAt, leadIn, padded, decodeBlock, decodedInto}
 use Rattle.block_decoder.specs.declared.Decoded.the-variants.{Text}
+use Rattle.block_decoder.specs.declared.BlockDecoded.{BlockDecoded}
 use Rattle.demands.specs.Demand.{Gives, RefusesAsUnclear}
 
 -- ---- what is sent
@@ -58,7 +59,7 @@ pub record RoundTrip : Type 0 where
 
 -- Correlations of the characters in any tones are from -64 to 64, and leads at most 64.
 pub record Range : Type 0 where
-  pub correlations : (b : ℕ) (tones : List ℕ) (q c : ℕ) → natAbs (corr (countIn b (symbolsOf tones) q) c) ≤ 64
+  pub correlations : (b : ℕ) (tones : List ℕ) (q c : ℕ) → natAbs (corr (countIn b (symbolsOf tones) plain q) c) ≤ 64
   pub leads : (b : ℕ) (tones : List ℕ) (q : ℕ) → characterAt b tones q .lead ≤ 64
 
 -- clean: the lead of every character is 64, here of the first n
@@ -78,15 +79,13 @@ pub record Clean : Type 0 where
       → CleanBack b m tones codes sent
 
 -- A block that breaks no limit is refused as unclear precisely when some character's lead is under m.
-module _ (b m : ℕ) (tones codes : List ℕ) where
-  pub record Precisely : Type 0 where
-    pub unclear : (q : ℕ) → q < b → leadIn (decodeBlock b m tones (length codes) .characters) q < m
-        → RefusesAsUnclear b m (decodeBlock b m tones (length codes)) codes (decodedInto b m tones codes)
-    pub clear : ((q : ℕ) → q < b → m ≤ leadIn (decodeBlock b m tones (length codes) .characters) q)
-        → decodeBlock b m tones (length codes) .answer ≡ Text b
+pub record Precisely (b m : ℕ) (d : BlockDecoded) (out out′ : List ℕ) : Type 0 where
+  pub unclear : (q : ℕ) → q < b → leadIn (d .characters) q < m → RefusesAsUnclear b m d out out′
+  pub clear : ((q : ℕ) → q < b → m ≤ leadIn (d .characters) q) → d .answer ≡ Text b
 
 pub record Clear : Type 0 where
-  pub precisely : (b m : ℕ) (tones codes : List ℕ) → IsSet b m → HasTones (2 ^ b) tones → b ≤ length codes → Precisely b m tones codes
+  pub precisely : (b m : ℕ) (tones codes : List ℕ) → IsSet b m → HasTones (2 ^ b) tones → b ≤ length codes
+      → Precisely b m (decodeBlock b m tones (length codes)) codes (decodedInto b m tones codes)
 
 -- Leads are even, so m = 2k - 1 acts as m = 2k.
 pub record OddLeads : Type 0 where

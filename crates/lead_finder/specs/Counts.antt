@@ -7,9 +7,6 @@ use lib.ListN.{getD}
 use Rattle.lists.specs.Lists.{num}
 use Rattle.walsh.specs.Words.{signed}
 
--- a weight with the sign s put on it; a weight is taken by its lowest four bits
-abbrev pub countOf : Bool → ℕ → ℤ
-countOf s weight = signed s (pos (weight % 16))
-
+-- what symbol t counts: its weight, taken by the lowest four bits, with its sign put on it
 abbrev pub countAt : List Bool → List ℕ → ℕ → ℤ
-countAt signs weights t = countOf (getD signs t false) (num weights t)
+countAt signs weights t = signed (getD signs t false) (pos (num weights t % 16))

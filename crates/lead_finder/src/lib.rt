@@ -1,10 +1,12 @@
 // The lead finder: the decision on one character, from the sign and the weight of what each symbol counts.
 use decision::Character;
 ghost use mathlib.Core.Path.{_≡_};
+ghost use Prim.Native.Nat.{_%_};
+ghost use lib.IntN.{pos};
 ghost use Rattle.lists.specs.Lists.{tab};
-ghost use Rattle.walsh.specs.Words.{corr};
+ghost use Rattle.walsh.specs.Words.{signed, corr};
 ghost use Rattle.decision.specs.Decision.{decision};
-ghost use Rattle.lead_finder.specs.Counts.{countOf, countAt};
+ghost use Rattle.lead_finder.specs.Counts.{countAt};
 
 mod keys;
 
@@ -28,7 +30,7 @@ fn counts(signs: [bool; 64], weights: &[u8; 64]) -> [i8; 64]
 }
 
 fn count(minus: bool, weight: u8) -> i8
-    ensures { λ r. ⌜ r ≡ countOf minus weight ⌝ }
+    ensures { λ r. ⌜ r ≡ signed minus (pos (weight % 16)) ⌝ }
 {
     let size = (weight % 16) as i8;
     if minus { -size } else { size }

@@ -14,7 +14,7 @@ use Rattle.reader.specs.declared.Word.the-variants.{Empty, Unreadable}
 use Rattle.reader.specs.declared.Line.{Line}
 use Rattle.reader.specs.Reader.{nextWord, isWhole, isEmpty, isBlank, isRead, wordEnd, nextLine, readLine, lineEnd, endTones}
 use Rattle.refusal.specs.Checks.{isMode, isLead}
-use Rattle.block_decoder.specs.Decoding.{refused, decodeBlock}
+use Rattle.block_decoder.specs.Decoding.{plain, refused, decodeBlock}
 use Rattle.block_decoder.specs.declared.BlockDecoded.{BlockDecoded}
 use Rattle.block_decoder.proofs.DecodeCases.{refuses-mode, refuses-lead, refuses-count}
 use Rattle.report.specs.Output.{unreadableText}
@@ -108,9 +108,9 @@ on-count b m tones e = by (isMode b) refl (isLead m) refl (ℕ-discrete (length 
 
     by : (t : Bool) → isMode b ≡ t → (u : Bool) → isLead m ≡ u → Dec (length tones ≡ 64) → length tones ≡ 64
     by t p u q (yes n) = n
-    by true p true q (no n) = no-other (refuses-count b m tones 8 p q n) refl
-    by true p false q (no n) = no-other (refuses-lead b m tones 8 p q) refl
-    by false p u q (no n) = no-other (refuses-mode b m tones 8 p) refl
+    by true p true q (no n) = no-other (refuses-count 1 b m tones plain 8 p q n) refl
+    by true p false q (no n) = no-other (refuses-lead 1 b m tones plain 8 p q) refl
+    by false p u q (no n) = no-other (refuses-mode 1 b m tones plain 8 p) refl
 
 -- what is written is paid for
 record Paid (credit : ℕ) (said : Said) : Type 0 where

@@ -11,7 +11,8 @@ use Rattle.decision.specs.Decision.{better, best, other, runnerUp, decisionFor,
 use Rattle.lists.specs.Places.{scan}
 use Rattle.chain.specs.Chain.{keyBit, gray}
 use Rattle.chain.specs.Tables.{symbolOf}
-use Rattle.block_decoder.specs.Decoding.{heardSymbol, countOf, countIn, symbolsOf, characterAt, charactersOf, firstUnclear, unlessUnclear, padded, decodeBlock}
+use Rattle.weight_range.specs.Range.{throughout, firstBadWeight}
+use Rattle.block_decoder.specs.Decoding.{heardSymbol, countOf, countIn, symbolsOf, weightedAt, weightedOf, firstUnclear, unlessUnclear, padded, heardBlock}
 use Rattle.tone_range.specs.Range.{firstBadTone}
 use Rattle.report.specs.Output.{heading, unreadableText, endText}
 use Rattle.block_report.specs.Lines.{placeText, decidedText, wordText, wordsText, characterText, charactersText, answerText, blockText}
@@ -19,5 +20,5 @@ use Rattle.listing_laws.specs.Listed.{blockHeard, blocksListed, checkedL
 use Rattle.listing_laws.specs.Laws.{Example}
 
 pub example : Example
-unfolding ones tab sum minus corr better best other runnerUp decisionFor decision over scan keyBit gray symbolOf heardSymbol countOf countIn symbolsOf characterAt charactersOf firstUnclear unlessUnclear padded firstBadTone decodeBlock onFirst lines parts words every valueFrom isNumber isMark isWord isReadableFirst isReadable valueOf valuesOf ascii digits decimal signedDecimal field signedField heading placeText decidedText wordText wordsText characterText charactersText unreadableText endText answerText blockText blockHeard blocksListed checkedListed linesListed listed
+unfolding ones tab sum minus corr better best other runnerUp decisionFor decision over scan keyBit gray symbolOf heardSymbol countOf countIn symbolsOf throughout weightedAt weightedOf firstUnclear unlessUnclear padded firstBadTone firstBadWeight heardBlock onFirst lines parts words every valueFrom isNumber isMark isWord isReadableFirst isReadable valueOf valuesOf ascii digits decimal signedDecimal field signedField heading placeText decidedText wordText wordsText characterText charactersText unreadableText endText answerText blockText blockHeard blocksListed checkedListed linesListed listed
 example = record { key-bits = refl; empty = refl }

@@ -17,7 +17,7 @@ use Rattle.reader_laws.proofs.LineReading.{reading}
 use Rattle.reader_laws.proofs.KeptSizes.{read-size, end-size}
 use Rattle.refusal.specs.Checks.{isMode, isLead}
 use Rattle.refusal.specs.Refused.{refusedAt}
-use Rattle.block_decoder.specs.Decoding.{decodeBlock}
+use Rattle.block_decoder.specs.Decoding.{plain, decodeBlock}
 use Rattle.block_decoder.specs.declared.BlockDecoded.{BlockDecoded}
 use Rattle.block_decoder.proofs.DecodeCases.{refuses-count}
 use Rattle.stages.specs.declared.Listing.{Listing}
@@ -68,8 +68,8 @@ module _ (b m : ℕ) (e : isMode b ≡ true) (f : isLead m ≡ true) where
       by : Dec (length xs ≡ 64) → decodeBlock b m (take 255 xs) 8 ≡ decodeBlock b m xs 8
       by (yes n) = rw (take-all 255 xs (omega arith))
       by (no n) =
-          refuses-count b m (take 255 xs) 8 e f (λ h. n (omega (arith, length-take 255 xs)))
-          ∙ sym (refuses-count b m xs 8 e f n)
+          refuses-count 1 b m (take 255 xs) plain 8 e f (λ h. n (omega (arith, length-take 255 xs)))
+          ∙ sym (refuses-count 1 b m xs plain 8 e f n)
 
   module _ (k : ℕ) (line tones : List ℕ) where
     unreadable-said : isReadable line ≡ false → k + 2 < 2 ^ 64 → lineSaid (hearing b m k) tones line ≡ stops (unreadableText (k + 2))

@@ -1,10 +1,10 @@
--- A front written over a list: a turn of the loop that writes it, what the list holds, and one front after another.
+-- A front written over a list: a turn of the loop that writes it, what the list holds, mapped, and one front after another.
 use mathlib.Core.Path.{_≡_, refl, sym, _∙_, ap}
-use mathlib.Core.List.{List, [], _∷_, _++_, append-assoc, append-nil}
-use Prim.Native.Nat.{ℕ, suc, _+_, _<_, _≤_}
+use mathlib.Core.List.{List, [], _∷_, _++_, map, append-assoc, append-nil, map-append}
+use Prim.Native.Nat.{ℕ, zero, suc, _+_, _<_, _≤_}
 use native.Mathlib.Numerals.{add-one}
 use native.Mathlib.Omega.{arith}
-use lib.ListN.{length, getD, set, take, drop, length-append, length-drop, drop-of-length-le, List·getD-append}
+use lib.ListN.{length, getD, set, take, drop, length-append, length-drop, length-map, drop-of-length-le, List·getD-append}
 use lib.Seq.{drop-cons, drop-drop, set-at, getD-at, take-at, drop-at}
 use Rattle.lists.specs.Lists.{tab, over}
 use Rattle.lists.proofs.Tables.{tab-length, tab-at}
@@ -74,6 +74,19 @@ over-drop front out n e = rw e
 pub over-none : {A : Type 0} (out : List A) → out ≡ over [] out
 unfolding over
 over-none out = refl
+
+-- ---- mapped
+
+map-drop : {A B : Type 0} (g : A → B) (n : ℕ) (l : List A) → map g (drop n l) ≡ drop n (map g l)
+map-drop g zero l = refl
+map-drop g (suc n) [] = refl
+map-drop g (suc n) (x ∷ l) = map-drop g n l
+
+pub over-map : {A B : Type 0} (g : A → B) (front out : List A) → map g (over front out) ≡ over (map g front) (map g out)
+unfolding over
+over-map g front out =
+    rw (length-map front g)
+    (map-append g front (drop (length front) out) ∙ ap (λ (x : List _). map g front ++ x) (map-drop g (length front) out))
 
 -- ---- one front after another, written over what is left
 

@@ -1,6 +1,7 @@
--- Sums over places: term by term, of constants, of neighbours, taken round from any start; the magnitude of a sum.
+-- Sums over places: term by term, of constants, of neighbours, of fewer terms, taken round from any start; the magnitude of a sum.
 use mathlib.Core.Path.{_≡_, refl, sym, _∙_, ap, ap₂}
 use Prim.Native.Nat.{ℕ, zero, suc, _+_, _*_, _<_, _≤_, _^_, _%_}
+use native.Mathlib.Decide.{ℕ-discrete}
 use native.Mathlib.Nat.{pow-suc, suc-mul, add-mod-left, mod-eq-of-lt}
 use native.Mathlib.Omega.{arith}
 use lib.IntN.{ℤ, pos, negℤ, natAbs, _+ℤ_, _-ℤ_, _*ℤ_, negℤ-+ℤ, +ℤ-assoc, zero-*ℤ, sucℤ-*ℤ}
@@ -63,6 +64,21 @@ pub total-within : (n b : ℕ) (f : ℕ → ℕ) → ((t : ℕ) → t < n → f 
 unfolding total
 total-within zero b f h = omega arith
 total-within (suc n) b f h = omega (arith, total-within n b f (λ t l. h t (omega arith)), h n (omega arith), suc-mul n b)
+
+pub total-mono : (n : ℕ) (f g : ℕ → ℕ) → ((t : ℕ) → t < n → f t ≤ g t) → total n f ≤ total n g
+unfolding total
+total-mono zero f g h = omega arith
+total-mono (suc n) f g h = omega (arith, total-mono n f g (λ t l. h t (omega arith)), h n (omega arith))
+
+-- fewer terms sum to no more
+pub total-fewer : (m n : ℕ) (f : ℕ → ℕ) → m ≤ n → total m f ≤ total n f
+unfolding total
+total-fewer m zero f h = let e : m ≡ 0 = omega arith in omega (arith, ap (λ (k : ℕ). total k f) e)
+total-fewer m (suc n) f h = by (ℕ-discrete m (suc n)) (total-fewer m n f)
+  where
+    by : Dec (m ≡ suc n) → (m ≤ n → total m f ≤ total n f) → total m f ≤ total n f + f n
+    by (yes e) below = omega (arith, ap (λ (k : ℕ). total k f) e)
+    by (no ne) below = omega (arith, below (omega arith))
 
 pub total-zero : (n : ℕ) (f : ℕ → ℕ) → ((t : ℕ) → t < n → f t ≡ 0) → total n f ≡ 0
 unfolding total

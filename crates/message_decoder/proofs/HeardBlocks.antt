@@ -6,7 +6,7 @@ use lib.ListN.{length, getD}
 use Rattle.lists.specs.Lists.{joined}
 use Rattle.lists.proofs.Joins.{joined-map, joined-length, joined-before, joined-at}
 use Rattle.decision.specs.declared.Character.{Character}
-use Rattle.block_decoder.specs.Decoding.{none, charactersOf, codesOf}
+use Rattle.block_decoder.specs.Decoding.{plain, none, charactersOf, codesOf}
 use Rattle.block_decoder.proofs.Characters.{characters-length, codes-length}
 use Rattle.message_encoder.specs.Blocks.{blockAt}
 use Rattle.message_decoder.specs.Decoding.{heardCharacters, messageCharacters}
@@ -16,7 +16,7 @@ module _ (b : ℕ) (tones : List ℕ) where
   blockCharacters k = charactersOf b (blockAt tones k)
 
   size : (k : ℕ) → length (blockCharacters k) ≡ b
-  size k = characters-length b (blockAt tones k)
+  size k = characters-length b (blockAt tones k) plain
 
   pub heard-count : (n : ℕ) → length (heardCharacters b tones n) ≡ n * b
   unfolding heardCharacters
@@ -39,4 +39,4 @@ module _ (b : ℕ) (tones : List ℕ) where
   heard-codes n = joined-map (λ c. c .code) blockCharacters n
 
   pub heard-codes-length : (n : ℕ) → length (codesOf (heardCharacters b tones n)) ≡ n * b
-  heard-codes-length n = ap length (heard-codes n) ∙ joined-length (λ k. codesOf (blockCharacters k)) b (λ k. codes-length b (blockAt tones k)) n
+  heard-codes-length n = ap length (heard-codes n) ∙ joined-length (λ k. codesOf (blockCharacters k)) b (λ k. codes-length b (blockAt tones k) plain) n

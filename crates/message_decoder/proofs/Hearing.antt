@@ -18,7 +18,7 @@ use Rattle.refusal.specs.Checks.{IsSet}
 use Rattle.refusal.specs.declared.Refusal.{Refusal}
 use Rattle.decision.specs.declared.Character.{Character}
 use Rattle.tone_range.specs.Range.{HasTones}
-use Rattle.block_decoder.specs.Decoding.{charactersOf, codesOf, leadIn, firstUnclear, unlessUnclear, decodeBlock, decodedInto}
+use Rattle.block_decoder.specs.Decoding.{plain, charactersOf, codesOf, leadIn, firstUnclear, unlessUnclear, decodeBlock, decodedInto}
 use Rattle.block_decoder.specs.declared.Decoded.{Decoded}
 use Rattle.block_decoder.specs.declared.Decoded.the-variants.{Text, Refused}
 use Rattle.block_decoder.specs.declared.BlockDecoded.{BlockDecoded}
@@ -60,7 +60,7 @@ module _ (b m : ℕ) (tones : List ℕ) (k n : ℕ) (inside : k < n) where
       let p : ℕ = firstUnclear m characters in
       let size : length (heardCharacters b tones n) ≡ n * b = heard-count b tones n in
       let first = unclear-is m characters in
-      let unclear : leadIn characters p < m = ltb-true (leadIn characters p) m (first .holds (omega (arith, characters-length b (blockAt tones k)))) in
+      let unclear : leadIn characters p < m = ltb-true (leadIn characters p) m (first .holds (omega (arith, characters-length b (blockAt tones k) plain))) in
       let place : firstUnclear m (heardCharacters b tones n) ≡ k * b + p =
       first-at (λ i. ltb (leadIn (heardCharacters b tones n) i) m) (length (heardCharacters b tones n)) (k * b + p) (omega (arith, place-room k n b inside))
       (lt-ltb (leadIn (heardCharacters b tones n) (k * b + p)) m (rw (lead-at p h) unclear))
@@ -96,8 +96,8 @@ module _ (b m : ℕ) (tones : List ℕ) (k : ℕ) (part : List ℕ) (s : IsSet b
   unclear r e = by (decLt (firstUnclear m block) b)
     where
       by : Dec (firstUnclear m block < b) → (firstUnclear m block < b) × (r ≡ unclearAt (firstUnclear m block) (leadIn block (firstUnclear m block)))
-      by (yes l) = (l, same-refusal (sym e ∙ answer ∙ unclear-told m block (Text b) (omega (arith, characters-length b (blockAt tones k)))))
-      by (no l) = absurd (text-refused (sym (answer ∙ clear-told m block (Text b) (omega (arith, characters-length b (blockAt tones k)))) ∙ e))
+      by (yes l) = (l, same-refusal (sym e ∙ answer ∙ unclear-told m block (Text b) (omega (arith, characters-length b (blockAt tones k) plain))))
+      by (no l) = absurd (text-refused (sym (answer ∙ clear-told m block (Text b) (omega (arith, characters-length b (blockAt tones k) plain))) ∙ e))
 
   pub refused-inside : (r : Refusal) → decodeBlock b m (blockAt tones k) (length part) .answer ≡ Refused r → r .place < b
   refused-inside r e = let u = unclear r e in rw (u .1) (u .0)
@@ -119,16 +119,16 @@ module _ (b m : ℕ) (tones : List ℕ) (k : ℕ) (part : List ℕ) (s : IsSet b
             let q : i - k * b < b = omega (arith, next-place k b (k * b) refl) in
             let here : m ≤ leadIn (heardCharacters b tones (k + 1)) (k * b + (i - k * b)) =
             rw (lead-at b m tones k (k + 1) (omega arith) (i - k * b) q)
-            (clear-lead m block (accepted b m (blockAt tones k) (length part) count e .clear) (i - k * b) (omega (arith, characters-length b (blockAt tones k)))) in
+            (clear-lead m block (accepted 1 b m (blockAt tones k) plain (length part) count e .clear) (i - k * b) (omega (arith, characters-length b (blockAt tones k) plain))) in
             let at : k * b + (i - k * b) ≡ i = omega arith in
             rw at at here
 
     -- what is written over a part of b codes: the block's
     pub block-codes : decodedInto b m (blockAt tones k) part ≡ codesOf block
     block-codes =
-        let whole : count ≡ b = accepted b m (blockAt tones k) (length part) count e .whole in
-        let codes : length (codesOf block) ≡ b = codes-length b (blockAt tones k) in
-        codes-written b m (blockAt tones k) part e
+        let whole : count ≡ b = accepted 1 b m (blockAt tones k) plain (length part) count e .whole in
+        let codes : length (codesOf block) ≡ b = codes-length b (blockAt tones k) plain in
+        codes-written 1 b m (blockAt tones k) plain part e
         ∙ ap (λ (x : List ℕ). over x part) (take-all count (codesOf block) (omega arith))
         ∙ over-whole (codesOf block) part (omega arith)
 
@@ -143,7 +143,7 @@ codes-more b tones k at codes last rest place e p =
     let block : List ℕ = codesOf (charactersOf b (blockAt tones k)) in
     let more : codesOf (heardCharacters b tones (k + 1)) ≡ codesOf (heardCharacters b tones k) ++ block =
     heard-codes b tones (k + 1) ∙ joined-more (λ i. codesOf (charactersOf b (blockAt tones i))) k ∙ ap (λ (x : List ℕ). x ++ block) (sym (heard-codes b tones k)) in
-    rw (step, p, more) (over-part (codesOf (heardCharacters b tones k)) block rest codes at b (heard-codes-length b tones k ∙ sym place) (codes-length b (blockAt tones k)) e)
+    rw (step, p, more) (over-part (codesOf (heardCharacters b tones k)) block rest codes at b (heard-codes-length b tones k ∙ sym place) (codes-length b (blockAt tones k) plain) e)
 
 -- the codes collected stand at the front
 module _ (b : ℕ) (tones : List ℕ) (n : ℕ) (codes rest : List ℕ) (e : codes ≡ over (codesOf (heardCharacters b tones n)) rest) where

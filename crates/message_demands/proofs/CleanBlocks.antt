@@ -16,7 +16,7 @@ use Rattle.decision.specs.declared.Character.{Character}
 use Rattle.chain.specs.Chain.{tonesOf}
 use Rattle.tone_range.specs.Range.{HasTones}
 use Rattle.block_encoder.specs.declared.Encoded.the-variants.{Tones}
-use Rattle.block_decoder.specs.Decoding.{characterAt, codesOf}
+use Rattle.block_decoder.specs.Decoding.{plain, characterAt, codesOf}
 use Rattle.block_decoder.specs.declared.Decoded.the-variants.{Text}
 use Rattle.block_decoder.proofs.Characters.{character-at, codes-length}
 use Rattle.demands.specs.Laws.{AreClean}
@@ -42,7 +42,7 @@ abbrev decidedIn : ℕ → List ℕ → ℕ → List ℕ
 decidedIn b tones k = decidedText b (blockAt tones k)
 
 decided-size : (b : ℕ) (tones : List ℕ) (k : ℕ) → length (decidedIn b tones k) ≡ b
-decided-size b tones k = codes-length b (blockAt tones k)
+decided-size b tones k = codes-length b (blockAt tones k) plain
 
 -- the codes decided in the first n blocks
 abbrev decidedCodes : ℕ → List ℕ → ℕ → List ℕ
@@ -104,7 +104,7 @@ module _ (limit b m n : ℕ) (tones out : List ℕ) (answer : decodeMessage limi
   lead-at : (k q : ℕ) → k < count → q < b → characterAt b (blockAt tones k) q .lead ≡ 64
   unfolding messageCharacters
   lead-at k q l g =
-      ap (λ (c : Character). c .lead) (sym (heard-at b tones count k q l g ∙ character-at b (blockAt tones k) q g))
+      ap (λ (c : Character). c .lead) (sym (heard-at b tones count k q l g ∙ character-at b (blockAt tones k) plain q g))
       ∙ clean .leads (k * b + q) (omega (arith, heard-count b tones count, place-room k count b l))
 
   codes-are : codesOf (messageCharacters b tones) ≡ codes

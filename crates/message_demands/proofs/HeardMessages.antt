@@ -14,15 +14,16 @@ use Rattle.lists.proofs.Joins.{joined-ext, joined-each}
 use Rattle.refusal.specs.Refused.{unclearAt}
 use Rattle.refusal.proofs.Limits.{mode-range}
 use Rattle.decision.specs.declared.Character.{Character}
+use Rattle.weight_range.proofs.Ranges.{has-throughout}
 use Rattle.tone_range.specs.Range.{HasTones}
 use Rattle.tone_range.proofs.Ranges.{good-tone, good-tones}
-use Rattle.block_decoder.specs.Decoding.{none, charactersOf, codesOf, leadIn, firstUnclear, decodeBlock, heardInto}
+use Rattle.block_decoder.specs.Decoding.{plain, none, charactersOf, codesOf, leadIn, firstUnclear, decodeBlock, heardInto}
 use Rattle.block_decoder.specs.declared.Decoded.{Decoded}
 use Rattle.block_decoder.specs.declared.Decoded.the-variants.{Text, Refused}
 use Rattle.block_decoder.specs.declared.BlockDecoded.{BlockDecoded}
 use Rattle.block_decoder.proofs.Characters.{characters-length, character-at}
 use Rattle.block_decoder.proofs.Clarity.{unclear-is, clear-lead, unclear-told}
-use Rattle.block_decoder.proofs.Answers.{decided}
+use Rattle.block_decoder.proofs.Answers.{passed, decided}
 use Rattle.demands.proofs.Answers as block
 use Rattle.delivery.specs.Delivery.{delivery}
 use Rattle.message_encoder.specs.Blocks.{blockAt}
@@ -105,7 +106,7 @@ module _ (limit b m : ℕ) (tones out own : List ℕ) (ok : BreaksNoLimit limit 
   lead-in : (k q : ℕ) → k < count → q < b → leadHeard b m tones own k q ≡ leadIn characters (k * b + q)
   unfolding messageCharacters
   lead-in k q l g =
-      block.lead-decided b m (blockAt tones k) own (ok .settings) (in-range k l) h q g
+      block.lead-decided 1 b m (blockAt tones k) plain own (passed b m (blockAt tones k) (length own) (ok .settings) (in-range k l .count) h) (in-range k l) (has-throughout 1 1 (omega arith)) q g
       ∙ sym (ap (λ (c : Character). c .lead) (heard-at b tones count k q l g))
 
   refuses : firstUnclear m characters < count * b → RefusesAsUnclear limit b m tones out own
@@ -165,8 +166,8 @@ clear = record { precisely = precisely }
 lead-even : (b : ℕ) (tones : List ℕ) (i : ℕ) → i < length (messageCharacters b tones) → leadIn (messageCharacters b tones) i % 2 ≡ 0
 unfolding messageCharacters heardCharacters
 lead-even b tones i l =
-    joined-each (λ k. charactersOf b (blockAt tones k)) b (λ k. characters-length b (blockAt tones k)) none (λ c. c .lead % 2 ≡ 0) (length tones / 64)
-    (λ k q g h. ap (λ (c : Character). c .lead % 2) (character-at b (blockAt tones k) q h) ∙ block.lead-even b (blockAt tones k) q) i
+    joined-each (λ k. charactersOf b (blockAt tones k)) b (λ k. characters-length b (blockAt tones k) plain) none (λ c. c .lead % 2 ≡ 0) (length tones / 64)
+    (λ k q g h. ap (λ (c : Character). c .lead % 2) (character-at b (blockAt tones k) plain q h) ∙ block.lead-even b (blockAt tones k) q) i
     (omega (arith, message-count b tones))
 
 odd-as-even : (limit b k : ℕ) (tones : List ℕ) (room : ℕ) → decodeMessage limit b (2 * k - 1) tones room ≡ decodeMessage limit b (2 * k) tones room

@@ -15,7 +15,7 @@ use Rattle.refusal.proofs.Limits.{mode-range, lead-range}
 use Rattle.decision.specs.declared.Character.{Character}
 use Rattle.block_encoder.specs.Encoding.{onAir, countSent}
 use Rattle.block_encoder.specs.declared.Encoded.the-variants.{Tones}
-use Rattle.block_decoder.specs.Decoding.{none, leadIn, characterAt, charactersOf, codesOf, firstUnclear, unlessUnclear}
+use Rattle.block_decoder.specs.Decoding.{weightedOf, none, leadIn, characterAt, codesOf, firstUnclear, unlessUnclear}
 use Rattle.block_decoder.specs.declared.Decoded.the-variants.{Text}
 use Rattle.block_decoder.proofs.Clarity.{all-clear, clear-told}
 use Rattle.demands.specs.Laws.{undamaged}
@@ -88,7 +88,7 @@ module _ (limit b m : ℕ) (text : List ℕ) (s : IsSet b m) (message : IsMessag
       ∙ ap undamaged (block-code b text k q l)
 
   characters-sent : (n : ℕ) → heardCharacters b (sentTones b text n) n ≡ tab (heardAs text) (n * b)
-  unfolding heardCharacters charactersOf
+  unfolding heardCharacters weightedOf
   characters-sent n =
       joined-ext _ (λ k. tab (λ q. heardAs text (k * b + q)) b) n (λ k h. tab-ext none _ _ b (λ q l. character-sent n k q h l))
       ∙ joined-tab (heardAs text) b n

@@ -9,14 +9,15 @@ use borrow.Author.Tests.{ltb-true, ltb-false, not-false}
 use lib.Dec.{ltb, leb, eqb}
 use lib.ListN.{length, length-map}
 use Rattle.refusal.specs.Refused.{refusedAt}
-use Rattle.refusal.specs.Checks.{isMode, isLead}
+use Rattle.refusal.specs.Checks.{isLeadAt, isMode, isLead}
 use Rattle.refusal.specs.declared.Refusal.{Refusal}
 use Rattle.refusal.proofs.Limits.{mode-range}
 use Rattle.decision.specs.declared.Character.{Character}
 use Rattle.tone_range.specs.Range.{firstBadTone}
+use Rattle.weight_range.specs.Range.{firstBadWeight}
 use Rattle.block_encoder.specs.Encoding.{firstBadCode, encodeBlock}
 use Rattle.block_encoder.specs.declared.Encoded.{Encoded}
-use Rattle.block_decoder.specs.Decoding.{charactersOf, codesOf, firstUnclear, unlessUnclear, refused, decodeBlock}
+use Rattle.block_decoder.specs.Decoding.{weightedOf, codesOf, firstUnclear, unlessUnclear, refused, heardBlock}
 use Rattle.block_decoder.specs.declared.Decoded.{Decoded}
 use Rattle.block_decoder.specs.declared.Decoded.the-variants.{Text}
 use Rattle.block_decoder.specs.declared.BlockDecoded.{BlockDecoded}
@@ -68,18 +69,22 @@ judged-small m characters clear few h =
     (λ unclear. omega (arith, ltb-true (firstUnclear m characters) (length characters) unclear))
     (λ _. h)
 
-pub block-heard-small : (b m : ℕ) (tones : List ℕ) (room : ℕ) → heardCarries (decodeBlock b m tones room .answer) < 2 ^ 32
-unfolding decodeBlock refused
-block-heard-small b m tones room =
+pub block-heard-small : (N b m : ℕ) (tones weights : List ℕ) (room : ℕ) → heardCarries (heardBlock N b m tones weights room .answer) < 2 ^ 32
+unfolding heardBlock refused
+block-heard-small N b m tones weights room =
     either-way SmallHeardBlock (not (isMode b)) _ _ (λ _. omega arith) (λ mode.
-    either-way SmallHeardBlock (not (isLead m)) _ _ (λ _. omega arith) (λ _.
+    either-way SmallHeardBlock (not (isLeadAt N m)) _ _ (λ _. omega arith) (λ _.
     either-way SmallHeardBlock (not (eqb (length tones) 64)) _ _ (λ _. omega arith) (λ _.
+    either-way SmallHeardBlock (not (eqb (length weights) 64)) _ _ (λ _. omega arith) (λ _.
     either-way SmallHeardBlock (ltb room b) _ _ (λ _. omega arith) (λ _.
     either-way SmallHeardBlock (ltb (firstBadTone (2 ^ b) tones) 64) _ _
     (λ bad. omega (arith, ltb-true (firstBadTone (2 ^ b) tones) 64 bad))
     (λ _.
+    either-way SmallHeardBlock (ltb (firstBadWeight N weights) 64) _ _
+    (λ bad. omega (arith, ltb-true (firstBadWeight N weights) 64 bad))
+    (λ _.
     let high : b ≤ 8 = mode-range b (not-false _ mode) .1 in
-    judged-small m (charactersOf b tones) (Text b) (omega (arith, characters-length b tones)) (omega arith))))))
+    judged-small m (weightedOf b tones weights) (Text b) (omega (arith, characters-length b tones weights)) (omega arith))))))))
 
 -- ---- a message
 

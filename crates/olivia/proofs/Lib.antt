@@ -1,2 +1,3 @@
 pub mod Carried
 pub mod TrialsTold
+pub mod WeightedTrialsTold

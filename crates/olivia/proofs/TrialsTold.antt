@@ -12,19 +12,20 @@ use Rattle.block_decoder.specs.declared.BlockDecoded.{BlockDecoded}
 use Rattle.demands.specs.Demand.{Gives, RefusesAsUnclear, MeetsDemand3}
 use Rattle.demands.specs.declared.Trial.{Trial}
 use Rattle.trial.specs.Tried.{trialOf, Tried}
-use Rattle.olivia.specs.Told.{encodedTold, decodedTold, capped, trialTold}
+use Rattle.trial.specs.WeightedTried.{capped}
+use Rattle.olivia.specs.Told.{encodedTold, decodedTold, trialTold}
 use Rattle.olivia.specs.Tried.{GivesForC, RefusesForC, MeetsDemand3ForC, TriedForC}
 use Rattle.olivia.specs.declared.TrialAnswers.{TrialAnswers}
 
 module _ (b m : ℕ) (text out out′ : List ℕ) (d : BlockDecoded) where
-  gives-told : Gives b text d out out′ → GivesForC b text (decodedTold (d .answer)) out out′
+  pub gives-told : Gives b text d out out′ → GivesForC b text (decodedTold (d .answer)) out out′
   gives-told g = record {
     number = ap (λ (a : Decoded). decodedTold a .number) (g .accepted);
     count = ap (λ (a : Decoded). decodedTold a .count) (g .accepted);
     written = g .written;
   }
 
-  refuses-told : RefusesAsUnclear b m d out out′ → RefusesForC b m (d .characters) (decodedTold (d .answer)) out out′
+  pub refuses-told : RefusesAsUnclear b m d out out′ → RefusesForC b m (d .characters) (decodedTold (d .answer)) out out′
   refuses-told u =
       let place : decodedTold (d .answer) .place ≡ u .place = ap (λ (a : Decoded). decodedTold a .place) (u .refused) in
       let lead : decodedTold (d .answer) .lead ≡ leadIn (d .characters) (u .place) = ap (λ (a : Decoded). decodedTold a .lead) (u .refused) in

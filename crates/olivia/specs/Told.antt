@@ -1,6 +1,6 @@
 -- What C is told of each answer (include/olivia.h).
 use mathlib.Core.List.{List}
-use Prim.Native.Nat.{ℕ, min}
+use Prim.Native.Nat.{ℕ}
 use lib.ListN.{getD}
 use Rattle.lists.specs.Lists.{tab}
 use Rattle.refusal.specs.declared.Refusal.{Refusal}
@@ -12,6 +12,8 @@ use Rattle.block_decoder.specs.declared.Decoded.{Decoded}
 use Rattle.block_decoder.specs.declared.Decoded.the-variants as decoded
 use Rattle.block_decoder.specs.declared.BlockDecoded.{BlockDecoded}
 use Rattle.demands.specs.declared.Trial.{Trial}
+use Rattle.weighted_demands.specs.declared.WeightedTrial.{WeightedTrial}
+use Rattle.trial.specs.WeightedTried.{capped}
 use Rattle.scaled.specs.Exact.{scaled}
 use Rattle.band.specs.declared.Tuned.{Tuned}
 use Rattle.band.specs.declared.Tuned.the-variants as tuned
@@ -20,6 +22,7 @@ use Rattle.olivia.specs.declared.CharacterAnswer.{CharacterAnswer}
 use Rattle.olivia.specs.declared.BlockAnswer.{BlockAnswer}
 use Rattle.olivia.specs.declared.HertzAnswer.{HertzAnswer}
 use Rattle.olivia.specs.declared.TrialAnswers.{TrialAnswers}
+use Rattle.olivia.specs.declared.WeightedTrialAnswers.{WeightedTrialAnswers}
 
 -- number 0: accepted, with the count of tones or codes written
 abbrev pub acceptedTold : ℕ → Answer
@@ -58,10 +61,6 @@ abbrev pub hertzTold : Tuned → HertzAnswer
 hertzTold (tuned.Hertz x) = record { number = 0; place = 0; hertz = x }
 hertzTold (tuned.Refused r) = record { number = r .number; place = r .place; hertz = scaled 0 }
 
--- the largest number of 32 bits stands for every larger count
-unfoldable pub capped : ℕ → ℕ
-capped n = min n 4294967295
-
 unfoldable pub trialTold : Trial → TrialAnswers
 trialTold t = record {
   encoded = encodedTold (t .encoded);
@@ -69,4 +68,12 @@ trialTold t = record {
   second = decodedTold (t .second .answer);
   replaced = capped (t .replaced);
   missing = capped (t .missing);
+}
+
+unfoldable pub weightedTrialTold : WeightedTrial → WeightedTrialAnswers
+weightedTrialTold t = record {
+  encoded = encodedTold (t .encoded);
+  first = decodedTold (t .first .answer);
+  second = decodedTold (t .second .answer);
+  damage = t .damage;
 }

@@ -1,4 +1,5 @@
-// The C library: the entries of document 01 for C and C++. include/olivia.h declares them.
+// The C library: the entries of documents 01 and 02 for C and C++. include/olivia.h declares them.
+use block_decoder::BlockDecoded;
 use block_decoder::Decoded;
 use block_decoder::NONE;
 use block_encoder::Encoded;
@@ -8,13 +9,15 @@ ghost use mathlib.Core.Path.{_≡_};
 ghost use Prim.Native.Nat.{_<_, _^_};
 ghost use lib.ListN.{length};
 ghost use Rattle.block_encoder.specs.Encoding.{encodeBlock, encodedInto};
-ghost use Rattle.block_decoder.specs.Decoding.{decodeBlock, decodedInto};
+ghost use Rattle.block_decoder.specs.Decoding.{decodeBlock, decodeWeighted, decodedInto, weightedInto};
+ghost use Rattle.trial.specs.WeightedTried.{capped};
 ghost use Rattle.message_encoder.specs.Blocks.{longest};
 ghost use Rattle.message_encoder.specs.Encoding.{encodeMessage, messageEncodedInto};
 ghost use Rattle.message_decoder.specs.Decoding.{decodeMessage, messageDecodedInto};
 ghost use Rattle.band.specs.Frequencies.{frequencyOf};
-ghost use Rattle.olivia.specs.Told.{acceptedTold, refusalTold, encodedTold, decodedTold, characterTold, charactersTold, blockTold, hertzTold, capped};
+ghost use Rattle.olivia.specs.Told.{acceptedTold, refusalTold, encodedTold, decodedTold, characterTold, charactersTold, blockTold, hertzTold};
 ghost use Rattle.olivia.specs.Tried.{TriedForC};
+ghost use Rattle.olivia.specs.WeightedTried.{WeightedTriedForC};
 ghost use Rattle.olivia.specs.Internal.{carriedBy, heardCarries};
 
 // number 0: accepted, and count is the tones or codes written. Else the refusal, and count is 0.
@@ -62,6 +65,15 @@ pub struct TrialAnswers {
     pub missing: u32,
 }
 
+// The answers of the three calls with weights, and document 02's D.
+#[repr(C)]
+pub struct WeightedTrialAnswers {
+    pub encoded: Answer,
+    pub first: Answer,
+    pub second: Answer,
+    pub damage: u32,
+}
+
 #[no_mangle]
 pub extern "C" fn olivia_encode_block(mode: u32, codes: &[u8], tones: &mut [u16]) -> Answer
     ensures answer { λ r. ⌜ r ≡ encodedTold (encodeBlock mode (now (codes .entry)) (length (now (tones .entry)))) ⌝ }
@@ -80,13 +92,21 @@ pub extern "C" fn olivia_decode_block(
     ensures answer { λ r. ⌜ r ≡ blockTold (decodeBlock mode «least_lead» (now (tones .entry)) (length (now (codes .entry)))) ⌝ }
     ensures output { λ _. ⌜ now (codes .exit) ≡ decodedInto mode «least_lead» (now (tones .entry)) (now (codes .entry)) ⌝ }
 {
-    let heard = block_decoder::decode_block(mode, least_lead, tones, codes);
-    let answer = heard.answer;
-    let characters = heard.characters;
-    BlockAnswer {
-        answer: told_decoded(answer),
-        characters: told_characters(characters),
-    }
+    told_block(block_decoder::decode_block(mode, least_lead, tones, codes))
+}
+
+#[no_mangle]
+pub extern "C" fn olivia_decode_weighted(
+    mode: u32,
+    least_lead: u32,
+    tones: &[u16],
+    weights: &[u8],
+    codes: &mut [u8],
+) -> BlockAnswer
+    ensures answer { λ r. ⌜ r ≡ blockTold (decodeWeighted mode «least_lead» (now (tones .entry)) (now (weights .entry)) (length (now (codes .entry)))) ⌝ }
+    ensures output { λ _. ⌜ now (codes .exit) ≡ weightedInto mode «least_lead» (now (tones .entry)) (now (weights .entry)) (now (codes .entry)) ⌝ }
+{
+    told_block(block_decoder::decode_weighted(mode, least_lead, tones, weights, codes))
 }
 
 #[no_mangle]
@@ -160,6 +180,34 @@ pub extern "C" fn olivia_trial_run(
     }
 }
 
+// The promise of trial::run_weighted, of the answers as C is told them.
+#[no_mangle]
+pub extern "C" fn olivia_weighted_trial_run(
+    mode: u32,
+    least_lead: u32,
+    text: &[u8],
+    heard: &[u16],
+    weights: &[u8],
+    tones: &mut [u16],
+    first: &mut [u8],
+    second: &mut [u8],
+) -> WeightedTrialAnswers
+    ensures { λ r. ⌜ WeightedTriedForC mode «least_lead» (now (text .entry)) (now (heard .entry)) (now (weights .entry)) r (now (tones .entry)) (now (tones .exit)) (now (first .entry)) (now (first .exit)) (now (second .entry)) (now (second .exit)) ⌝ }
+{
+    let trial = trial::run_weighted(mode, least_lead, text, heard, weights, tones, first, second);
+    let encoded = trial.encoded;
+    let one = trial.first;
+    let two = trial.second;
+    let one_answer = one.answer;
+    let two_answer = two.answer;
+    WeightedTrialAnswers {
+        encoded: told_encoded(encoded),
+        first: told_decoded(one_answer),
+        second: told_decoded(two_answer),
+        damage: trial.damage,
+    }
+}
+
 fn accepted(count: usize) -> Answer
     requires { ⌜ count < 2 ^ 32 ⌝ }
     ensures { λ r. ⌜ r ≡ acceptedTold count ⌝ }
@@ -201,6 +249,18 @@ fn told_decoded(answer: Decoded) -> Answer
     match answer {
         Decoded::Text(count) => accepted(count),
         Decoded::Refused(refusal) => refused(refusal),
+    }
+}
+
+fn told_block(heard: BlockDecoded) -> BlockAnswer
+    requires { ⌜ heardCarries (heard .answer) < 2 ^ 32 ⌝ }
+    ensures { λ r. ⌜ r ≡ blockTold heard ⌝ }
+{
+    let answer = heard.answer;
+    let characters = heard.characters;
+    BlockAnswer {
+        answer: told_decoded(answer),
+        characters: told_characters(characters),
     }
 }
 

@@ -1,7 +1,7 @@
 // Limits that several entries check: document 01, "Who can cause a refusal".
 ghost use mathlib.Core.Path.{_≡_};
 ghost use Prim.Native.Nat.{_%_, _^_};
-ghost use Rattle.refusal.specs.Checks.{isMode, isLead};
+ghost use Rattle.refusal.specs.Checks.{isMode, isLeadAt, isLead};
 
 pub fn is_mode(mode: u32) -> bool
     ensures { λ r. ⌜ r ≡ isMode mode ⌝ }
@@ -12,7 +12,14 @@ pub fn is_mode(mode: u32) -> bool
 pub fn is_lead(least_lead: u32) -> bool
     ensures { λ r. ⌜ r ≡ isLead «least_lead» ⌝ }
 {
-    1 <= least_lead && least_lead <= 64
+    is_lead_at(1, least_lead)
+}
+
+// Whether the set lead is 1 to 64 * greatest, where no weight is above greatest.
+pub fn is_lead_at(greatest: u8, least_lead: u32) -> bool
+    ensures { λ r. ⌜ r ≡ isLeadAt greatest «least_lead» ⌝ }
+{
+    1 <= least_lead && least_lead <= 64 * (greatest as u32)
 }
 
 // The count of a mode's tones, 2^mode. A number of 16 or more goes by its lowest four bits.

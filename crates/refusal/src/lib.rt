@@ -6,7 +6,7 @@ pub mod checks;
 
 // The installer: the mode is not 1 to 8.
 pub const MODE: u8 = 1;
-// The installer: the set lead is not 1 to 64.
+// The installer: the set lead is not 1 to 64, or with weights not 1 to 960.
 pub const LEAST_LEAD: u8 = 2;
 // The installer: the width is not one of the five.
 pub const WIDTH: u8 = 3;
@@ -16,7 +16,7 @@ pub const CENTRE: u8 = 4;
 pub const CODE_COUNT: u8 = 5;
 // The writer: a code of 128 or more, in a message also code 0.
 pub const CODE: u8 = 6;
-// The modem board: a block has not 64 tones, or a message's count of tones is no multiple of 64 or too large.
+// The modem board: a block has not 64 tones, or with weights not 64 of these, or a message's count of tones is no multiple of 64 or too large.
 pub const TONE_COUNT: u8 = 7;
 // The modem board: a tone is neither one of the mode's nor an allowed missing mark.
 pub const TONE: u8 = 8;
@@ -28,6 +28,8 @@ pub const UNCLEAR: u8 = 10;
 pub const ZERO: u8 = 11;
 // The air or the far end: a message's text is too long.
 pub const TOO_LONG: u8 = 12;
+// The modem board: a weight is above 15.
+pub const WEIGHT: u8 = 14;
 
 // Number, place and lead; the lead is 0 but for UNCLEAR.
 pub struct Refusal {

@@ -1,2 +1,4 @@
 pub mod Tallies
+pub mod Damages
 pub mod Trials
+pub mod WeightedTrials

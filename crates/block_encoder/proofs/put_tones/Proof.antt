@@ -1,13 +1,16 @@
 use mathlib.Core.Path.{_≡_, refl, _∙_, ap}
 use mathlib.Core.List.{List}
-use Prim.Native.Nat.{ℕ, _-_, _<_, _≤_}
+use Prim.Native.Nat.{ℕ, _-_, _≤_}
 use native.Mathlib.Omega.{arith}
 use lib.ListN.{length, length-set}
+use lib.Pow.{pow-mono}
 use borrow.Author.Needs.{needs}
 use Rattle.lists.specs.Lists.{tab, num, over}
 use Rattle.lists.proofs.Tables.{tab-at}
 use Rattle.lists.proofs.Fronts.{over-start, over-set}
+use Rattle.refusal.proofs.Limits.{mode-range}
 use Rattle.chain.specs.Chain.{symbolAt, gray, toneAt, tonesOf}
+use Rattle.chain.proofs.Interleaving.{interleaver}
 use Rattle.block_encoder.proofs.put_tones.Statement.{statement}
 use Rattle.block_encoder.proofs.put_tones.Tie as tie
 
@@ -24,11 +27,22 @@ of-codes-requires c κs = search needs
 loop-holds : tie.Need-loop-holds Inv-loop μ-loop
 loop-holds c = (search needs, refl, over-start _ _)
 
-mul-tone-of : tie.Need-mul-tone-of Inv-loop μ-loop
-mul-tone-of c = search needs
-
 array-read-tone-of : tie.Need-array-read-tone-of Inv-loop μ-loop
 array-read-tone-of c = search needs
+
+-- the symbol at t
+symbol-at : (c : tie.In-loop Inv-loop μ-loop) →
+    let a = c .before .before .before .before .before .args in
+    num (c .before .before .of-codes .result) (c .before .loop .t) ≡ symbolAt (a .mode) (a .codes .now) (c .before .loop .t)
+symbol-at c =
+    let t = c .before .loop .t in
+    ap (λ (x : List ℕ). num x t) (c .before .before .of-codes .ensures) ∙ tab-at _ 0 64 t (c .loop-test .taken)
+
+cast-tone-of : tie.Need-cast-tone-of Inv-loop μ-loop
+cast-tone-of c =
+    let s = c .before .before .before .before .before in
+    let mode = s .args .mode in
+    omega (arith, symbol-at c, interleaver .below mode (s .args .codes .now) (c .before .loop .t), pow-mono {i = mode} {j = 8} (mode-range mode (s .pre .0) .1))
 
 tone-of-requires : tie.Need-tone-of-requires Inv-loop μ-loop
 tone-of-requires c κs = tt
@@ -49,14 +63,11 @@ loop-again : tie.Need-loop-again Inv-loop μ-loop
 unfolding toneAt
 loop-again c =
     let l = c .before .before .loop in
-    let s = c .before .before .before .before .before .before in
-    let here : l .t < 64 = c .before .loop-test .taken in (
+    let s = c .before .before .before .before .before .before in (
       search needs,
       length-set (l .tones) (l .t) _ ∙ l .inv .1,
       over-set 0 (toneAt (s .args .mode) (s .args .codes .now)) (l .t) (s .args .tones .now) (l .tones) _ (omega arith) (l .inv .2)
-          (c .tone-of .ensures
-          ∙ ap (λ (x : List ℕ). gray (num x (l .t))) (c .before .before .before .of-codes .ensures)
-          ∙ ap gray (tab-at (symbolAt (s .args .mode) (s .args .codes .now)) 0 64 (l .t) here)),
+          (c .tone-of .ensures ∙ ap gray (symbol-at (c .before))),
     )
 
 same-length : tie.Need-same-length Inv-loop μ-loop
@@ -77,8 +88,8 @@ put-tones-spec =
     μ-loop
     of-codes-requires
     loop-holds
-    mul-tone-of
     array-read-tone-of
+    cast-tone-of
     tone-of-requires
     mul-tones
     slice-write-tones

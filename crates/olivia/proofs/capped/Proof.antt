@@ -2,7 +2,7 @@ use mathlib.Core.Path.{sym}
 use native.Mathlib.Nat.{min-eq-left, min-eq-right}
 use native.Mathlib.Omega.{arith}
 use borrow.Author.Needs.{needs}
-use Rattle.olivia.specs.Told.{capped}
+use Rattle.trial.specs.WeightedTried.{capped}
 use Rattle.olivia.proofs.capped.Statement.{statement}
 use Rattle.olivia.proofs.capped.Tie as tie
 

@@ -1,4 +1,4 @@
-use mathlib.Core.Path.{ap}
+use mathlib.Core.Path.{_∙_, ap}
 use borrow.Author.Needs.{needs}
 use Rattle.olivia.specs.Told.{blockTold}
 use Rattle.olivia.proofs.Carried.{block-heard-small}
@@ -8,22 +8,17 @@ use Rattle.olivia.proofs.olivia_decode_block.Tie as tie
 decode-block-requires : tie.Need-decode-block-requires
 decode-block-requires c κs = search needs
 
-told-decoded-requires : tie.Need-told-decoded-requires
-told-decoded-requires c κs = rw (c .before .before .before .decode-block .ensures .0) (block-heard-small _ _ _ _)
-
-told-characters-requires : tie.Need-told-characters-requires
-told-characters-requires c κs = search needs
+told-block-requires : tie.Need-told-block-requires
+told-block-requires c κs = rw (c .before .before .decode-block .ensures .0) (block-heard-small _ _ _ _ _ _)
 
 same-length : tie.Need-same-length
 same-length c = search needs
 
 returns : tie.Need-returns
-unfolding blockTold
 returns c =
-    let called = c .before .before .before .before .before .decode-block in
-    (rw (c .before .told-decoded .ensures, c .told-characters .ensures) (ap blockTold (called .ensures .0)), called .ensures .1)
+    let called = c .before .before .before .decode-block in
+    (c .told-block .ensures ∙ ap blockTold (called .ensures .0), called .ensures .1)
 
 pub olivia-decode-block-spec : {M : Type 1} → statement M
 olivia-decode-block-spec =
-    tie.close
-    (tie.spec decode-block-requires told-decoded-requires told-characters-requires same-length returns)
+    tie.close (tie.spec decode-block-requires told-block-requires same-length returns)

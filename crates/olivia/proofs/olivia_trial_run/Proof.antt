@@ -16,11 +16,11 @@ told-encoded-requires c κs = rw (c .before .before .before .before .before .bef
 
 told-decoded-requires : tie.Need-told-decoded-requires
 unfolding trialOf
-told-decoded-requires c κs = rw (c .before .before .before .before .before .before .before .before .before .run .ensures .answers) (block-heard-small _ _ _ _)
+told-decoded-requires c κs = rw (c .before .before .before .before .before .before .before .before .before .run .ensures .answers) (block-heard-small _ _ _ _ _ _)
 
 told-decoded-requires-2 : tie.Need-told-decoded-requires-2
 unfolding trialOf
-told-decoded-requires-2 c κs = rw (c .before .before .before .before .before .before .before .before .before .before .run .ensures .answers) (block-heard-small _ _ _ _)
+told-decoded-requires-2 c κs = rw (c .before .before .before .before .before .before .before .before .before .before .run .ensures .answers) (block-heard-small _ _ _ _ _ _)
 
 capped-requires : tie.Need-capped-requires
 capped-requires c κs = search needs

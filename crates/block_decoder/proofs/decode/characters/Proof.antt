@@ -1,27 +1,24 @@
-use mathlib.Core.Path.{_≡_, _∙_, ap}
-use mathlib.Core.List.{List}
-use Prim.Native.Nat.{ℕ, _≤_, _-_}
+use mathlib.Core.Path.{_≡_, _∙_}
+use Prim.Native.Nat.{_<_, _≤_, _-_}
 use native.Mathlib.Omega.{arith}
 use lib.ListN.{replicate}
 use borrow.Author.Needs.{needs}
 use Rattle.lists.specs.Lists.{tab, over}
 use Rattle.lists.proofs.Fronts.{over-start, over-set}
 use Rattle.refusal.proofs.Limits.{mode-range}
-use Rattle.walsh.specs.Words.{corr}
-use Rattle.decision.specs.Decision.{decision}
 use Rattle.decision.proofs.Choice.{counts-decide}
-use Rattle.chain.proofs.Weights.{mode-weights}
-use Rattle.block_decoder.specs.Decoding.{countIn, none, characterAt, charactersOf, padded}
+use Rattle.chain.proofs.Values.{mode-values}
+use Rattle.block_decoder.specs.Decoding.{symbolsOf, countIn, weightedAt, weightedOf, none, padded}
 use Rattle.block_decoder.proofs.TableCounts.{table-count}
 use Rattle.block_decoder.proofs.decode.characters.Statement.{statement}
 use Rattle.block_decoder.proofs.decode.characters.Tie as tie
 
 abbrev Inv-loop : tie.InvT-loop
-Inv-loop mode tones symbols weights keys places b characters₀ q₀ characters q =
-    (mode ≤ 8) × (q ≤ mode) × (characters ≡ over (tab (characterAt mode tones) q) (replicate 8 none))
+Inv-loop mode tones weights symbols heard keys values b characters₀ q₀ characters q =
+    (mode ≤ 8) × (q ≤ mode) × (characters ≡ over (tab (weightedAt mode tones weights) q) (replicate 8 none))
 
 abbrev μ-loop : tie.MeasureT-loop
-μ-loop mode tones symbols weights keys places b characters₀ q₀ characters q = mode - q
+μ-loop mode tones weights symbols heard keys values b characters₀ q₀ characters q = mode - q
 
 heard-symbols-requires : tie.Need-heard-symbols-requires Inv-loop μ-loop
 heard-symbols-requires c κs = search needs
@@ -32,8 +29,8 @@ heard-weights-requires c κs = search needs
 keys-requires : tie.Need-keys-requires Inv-loop μ-loop
 keys-requires c κs = search needs
 
-weights-requires : tie.Need-weights-requires Inv-loop μ-loop
-weights-requires c κs = search needs
+values-requires : tie.Need-values-requires Inv-loop μ-loop
+values-requires c κs = search needs
 
 loop-holds : tie.Need-loop-holds Inv-loop μ-loop
 loop-holds c = (mode-range _ (c .before .before .before .before .before .before .pre .0) .1, search needs, over-start _ _)
@@ -57,21 +54,29 @@ loop-less : tie.Need-loop-less Inv-loop μ-loop
 loop-less c = search needs
 
 loop-again : tie.Need-loop-again Inv-loop μ-loop
-unfolding characterAt
+unfolding weightedAt
 loop-again c =
     let l = c .before .before .before .before .before .before .before in
     let s = l .before .before .before .before .before .before .before in
-    let symbols = l .before .before .before .before .before .heard-symbols in
-    let h = countIn (s .args .mode) (symbols .result) (l .loop .q) in
-    let here : c .decide .result ≡ characterAt (s .args .mode) (s .args .tones .now) (l .loop .q) =
+    let tables = l .before in
+    let more : l .loop .q < s .args .mode = c .before .before .before .before .before .before .loop-test .taken in
+    let high : s .args .mode ≤ 8 = l .loop .inv .0 in
+    let here : c .decide .result ≡ weightedAt (s .args .mode) (s .args .tones .now) (s .args .weights .now) (l .loop .q) =
     c .decide .ensures
-    ∙ counts-decide _ h
-    (table-count (s .args .mode) (l .loop .q) _ _ _ _ _ (l .before .before .keys .ensures) (l .before .weights .ensures ∙ mode-weights (s .args .mode) (s .pre .0)) (omega arith) (c .before .before .signs .ensures) (l .before .before .before .heard-weights .ensures))
-    ∙ ap (λ (x : List ℕ). decision (corr (countIn (s .args .mode) x (l .loop .q)))) (symbols .ensures) in
-    (search needs, search needs, over-set none _ (l .loop .q) _ _ _ (omega arith) (l .loop .inv .2) here)
+    ∙ counts-decide _ (countIn (s .args .mode) (symbolsOf (s .args .tones .now)) (s .args .weights .now) (l .loop .q))
+    (table-count (s .args .mode) (l .loop .q) _ _ _ _ (s .args .tones .now) (s .args .weights .now) _
+    (tables .before .keys .ensures)
+    (tables .values .ensures ∙ mode-values (s .args .mode) (s .pre .0))
+    (tables .before .before .before .heard-symbols .ensures)
+    (omega arith)
+    (c .before .before .signs .ensures)
+    (tables .before .before .heard-weights .ensures)
+    (s .pre .1)
+    (s .pre .2)) in
+    (high, omega arith, over-set none _ (l .loop .q) _ _ _ (omega arith) (l .loop .inv .2) here)
 
 returns : tie.Need-returns Inv-loop μ-loop
-unfolding charactersOf padded
+unfolding weightedOf padded
 returns c =
     let l = c .before in
     let e : l .loop .q ≡ l .before .before .before .before .before .before .before .args .mode = omega arith in
@@ -86,7 +91,7 @@ characters-spec =
     heard-symbols-requires
     heard-weights-requires
     keys-requires
-    weights-requires
+    values-requires
     loop-holds
     signs-requires
     decide-requires

@@ -9,7 +9,7 @@ use Rattle.block_decoder.proofs.interleaver.sign.Tie as tie
 
 returns : tie.Need-returns
 unfolding signBy
-returns c = let a = c .args in sym (turned-differs (a .key) (not (eqb (bitAnd (a .symbol) (a .weight)) 0)))
+returns c = let a = c .args in sym (turned-differs (a .key) (not (eqb (bitAnd (a .symbol) (a .value)) 0)))
 
 pub sign-spec : {M : Type 1} → statement M
 sign-spec = tie.close (tie.spec returns)

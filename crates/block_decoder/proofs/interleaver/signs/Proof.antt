@@ -12,17 +12,14 @@ use Rattle.block_decoder.proofs.interleaver.signs.Statement.{statement}
 use Rattle.block_decoder.proofs.interleaver.signs.Tie as tie
 
 abbrev Inv-loop : tie.InvT-loop
-Inv-loop q keys weights symbols signs₀ t₀ signs t =
-    (t ≤ 64) × (signs ≡ over (tab (tableSign keys weights symbols q) t) (replicate 64 false))
+Inv-loop q keys values symbols signs₀ t₀ signs t =
+    (t ≤ 64) × (signs ≡ over (tab (tableSign keys values symbols q) t) (replicate 64 false))
 
 abbrev μ-loop : tie.MeasureT-loop
-μ-loop q keys weights symbols signs₀ t₀ signs t = 64 - t
+μ-loop q keys values symbols signs₀ t₀ signs t = 64 - t
 
 loop-holds : tie.Need-loop-holds Inv-loop μ-loop
 loop-holds c = (search needs, over-start _ _)
-
-mul-sign : tie.Need-mul-sign Inv-loop μ-loop
-mul-sign c = search needs
 
 element-copy-out-sign : tie.Need-element-copy-out-sign Inv-loop μ-loop
 element-copy-out-sign c = search needs
@@ -36,14 +33,8 @@ shr-sign c = search needs
 add-sign : tie.Need-add-sign Inv-loop μ-loop
 add-sign c = search needs
 
-mul-sign-2 : tie.Need-mul-sign-2 Inv-loop μ-loop
-mul-sign-2 c = search needs
-
 element-copy-out-sign-2 : tie.Need-element-copy-out-sign-2 Inv-loop μ-loop
 element-copy-out-sign-2 c = search needs
-
-mul-sign-3 : tie.Need-mul-sign-3 Inv-loop μ-loop
-mul-sign-3 c = search needs
 
 element-copy-out-sign-3 : tie.Need-element-copy-out-sign-3 Inv-loop μ-loop
 element-copy-out-sign-3 c = search needs
@@ -66,7 +57,7 @@ loop-again c =
     let l = c .before .before .before .before .before .loop in
     let a = c .before .before .before .before .before .before .args in (
       search needs,
-      over-set false (tableSign (a .keys .now) (a .weights .now) (a .symbols .now) (a .q)) (l .t) (replicate 64 false) (l .signs) _ (omega arith) (l .inv .1)
+      over-set false (tableSign (a .keys .now) (a .values .now) (a .symbols .now) (a .q)) (l .t) (replicate 64 false) (l .signs) _ (omega arith) (l .inv .1)
           (c .sign .ensures),
     )
 
@@ -83,14 +74,11 @@ signs-spec =
     Inv-loop
     μ-loop
     loop-holds
-    mul-sign
     element-copy-out-sign
     cast-sign
     shr-sign
     add-sign
-    mul-sign-2
     element-copy-out-sign-2
-    mul-sign-3
     element-copy-out-sign-3
     sign-requires
     array-write-signs

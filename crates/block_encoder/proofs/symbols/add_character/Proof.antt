@@ -8,21 +8,20 @@ use Rattle.lists.specs.Sums.{total}
 use Rattle.lists.specs.Lists.{tab, num, over}
 use Rattle.lists.proofs.Tables.{tab-at}
 use Rattle.lists.proofs.Fronts.{over-start, over-set, over-next, over-tab-whole}
-use Rattle.chain.specs.Chain.{bit, keyBit, weightAt}
-use Rattle.chain.specs.Tables.{keysAt, placeWeight}
+use Rattle.chain.specs.Chain.{bit, keyBit, valueAt}
+use Rattle.chain.specs.Tables.{keysAt, placeValue}
 use Rattle.chain.proofs.Keys.{keys-bit}
-use Rattle.chain.proofs.Weights.{weight-small}
 use Rattle.block_encoder.specs.Internal.{partSymbols}
-use Rattle.block_encoder.proofs.PartSymbols.{part-at, part-length, part-more, part-room}
+use Rattle.block_encoder.proofs.PartSymbols.{part-at, part-length, part-more, cond-difference, part-room}
 use Rattle.block_encoder.proofs.symbols.add_character.Statement.{statement}
 use Rattle.block_encoder.proofs.symbols.add_character.Tie as tie
 
 abbrev Inv-loop : tie.InvT-loop
-Inv-loop q codes keys weights symbols₀ code t₀ symbols t =
-    (t ≤ 64) × (length symbols ≡ 64) × (symbols ≡ over (tab (λ k. total (q + 1) (weightAt (length codes) codes k)) t) (partSymbols codes q))
+Inv-loop q codes keys values symbols₀ code t₀ symbols t =
+    (t ≤ 64) × (length symbols ≡ 64) × (symbols ≡ over (tab (λ k. total (q + 1) (valueAt (length codes) codes k)) t) (partSymbols codes q))
 
 abbrev μ-loop : tie.MeasureT-loop
-μ-loop q codes keys weights symbols₀ code t₀ symbols t = 64 - t
+μ-loop q codes keys values symbols₀ code t₀ symbols t = 64 - t
 
 shared-slice-read-code : tie.Need-shared-slice-read-code Inv-loop μ-loop
 shared-slice-read-code c = search needs
@@ -35,9 +34,6 @@ loop-holds c =
 code-bit-requires : tie.Need-code-bit-requires Inv-loop μ-loop
 code-bit-requires c κs = search needs
 
-mul-bit : tie.Need-mul-bit Inv-loop μ-loop
-mul-bit c = search needs
-
 element-copy-out-bit : tie.Need-element-copy-out-bit Inv-loop μ-loop
 element-copy-out-bit c = search needs
 
@@ -47,9 +43,6 @@ cast-bit c = search needs
 shr-bit : tie.Need-shr-bit Inv-loop μ-loop
 shr-bit c = search needs
 
-mul-added : tie.Need-mul-added Inv-loop μ-loop
-mul-added c = search needs
-
 slice-read-added : tie.Need-slice-read-added Inv-loop μ-loop
 slice-read-added c =
     let l = c .before .before .before .before .loop in
@@ -58,26 +51,39 @@ slice-read-added c =
 add-added : tie.Need-add-added Inv-loop μ-loop
 add-added c = search needs
 
-mul-added-2 : tie.Need-mul-added-2 Inv-loop μ-loop
-mul-added-2 c = search needs
-
 element-copy-out-added : tie.Need-element-copy-out-added Inv-loop μ-loop
 element-copy-out-added c = search needs
 
+-- symbol t as far as the characters before q go, and the value of the next one's place
+sum-known : (c : tie.In-loop Inv-loop μ-loop) →
+    let l = c .before .loop in
+    let a = c .before .before .before .before .before .args in
+    num (l .symbols) (l .t) ≡ total (a .q) (valueAt (length (a .codes .now)) (a .codes .now) (l .t))
+sum-known c =
+    let l = c .before .loop in
+    let a = c .before .before .before .before .before .args in
+    let here : l .t < 64 = c .loop-test .taken in
+    ap (λ (x : List ℕ). num x (l .t)) (l .inv .2)
+    ∙ over-next _ 0 (l .t) _ (rw (part-length (a .codes .now) (a .q)) here)
+    ∙ part-at (a .codes .now) (a .q) (l .t) here
+
+value-known : (c : tie.In-loop Inv-loop μ-loop) →
+    let l = c .before .loop in
+    let a = c .before .before .before .before .before .args in
+    num (a .values .now) (a .q + l .t) ≡ placeValue (length (a .codes .now)) (a .q + l .t)
+value-known c =
+    let l = c .before .loop in
+    let s = c .before .before .before .before .before in
+    let a = s .args in
+    ap (λ (x : List ℕ). num x (a .q + l .t)) (s .pre .1 .0 .1)
+    ∙ tab-at (placeValue (length (a .codes .now))) 0 72 (a .q + l .t) (omega (arith, s .pre .0 .0, s .pre .0 .1))
+
 added-requires : tie.Need-added-requires Inv-loop μ-loop
 added-requires c κs =
-    let l = c .before .before .before .before .before .loop in
-    let s = c .before .before .before .before .before .before .before .before .before in
-    let a = s .args in
-    let here : l .t < 64 = c .before .before .before .before .loop-test .taken in (
-      part-room (a .codes .now) (l .t) (a .q) _ (s .pre .0 .0) (s .pre .0 .1)
-          (ap (λ (x : List ℕ). num x (l .t)) (l .inv .2) ∙ over-next _ 0 (l .t) _ (rw (part-length (a .codes .now) (a .q)) here) ∙ part-at (a .codes .now) (a .q) (l .t) here),
-      rw (s .pre .1 .0 .1, tab-at (placeWeight (length (a .codes .now))) 0 72 (a .q + l .t) (omega arith))
-          (weight-small (length (a .codes .now)) (omega arith) (s .pre .0 .1) (a .q + l .t)),
-    )
-
-mul-symbols : tie.Need-mul-symbols Inv-loop μ-loop
-mul-symbols c = search needs
+    let turn = c .before .before .before .before in
+    let s = turn .before .before .before .before .before in
+    let room = part-room (s .args .codes .now) (turn .before .loop .t) (s .args .q) _ _ (s .pre .0 .0) (s .pre .0 .1) (sum-known turn) (value-known turn) in
+    rw cond-difference (omega (arith, room))
 
 slice-write-symbols : tie.Need-slice-write-symbols Inv-loop μ-loop
 slice-write-symbols c =
@@ -92,22 +98,19 @@ loop-less c = search needs
 
 loop-again : tie.Need-loop-again Inv-loop μ-loop
 loop-again c =
-    let l = c .before .before .before .before .before .before .loop in
-    let s = c .before .before .before .before .before .before .before .before .before .before in
+    let turn = c .before .before .before .before .before in
+    let l = turn .before .loop in
+    let s = turn .before .before .before .before .before in
     let a = s .args in
-    let here : l .t < 64 = c .before .before .before .before .before .loop-test .taken in
-    let sum : num (l .symbols) (l .t) ≡ total (a .q) (weightAt (length (a .codes .now)) (a .codes .now) (l .t)) =
-    ap (λ (x : List ℕ). num x (l .t)) (l .inv .2) ∙ over-next _ 0 (l .t) _ (rw (part-length (a .codes .now) (a .q)) here) ∙ part-at (a .codes .now) (a .q) (l .t) here in
+    let here : l .t < 64 = turn .loop-test .taken in
     let key : bit (num (a .keys .now) (l .t)) (a .q) ≡ keyBit (a .q) (l .t) =
     ap (λ (x : List ℕ). bit (num x (l .t)) (a .q)) (s .pre .1 .0 .0)
     ∙ ap (λ (k : ℕ). bit k (a .q)) (tab-at keysAt 0 64 (l .t) here)
-    ∙ keys-bit (l .t) (a .q) (omega (arith, s .pre .0 .0, s .pre .0 .1)) in
-    let weight : num (a .weights .now) (a .q + l .t) ≡ placeWeight (length (a .codes .now)) (a .q + l .t) =
-    ap (λ (x : List ℕ). num x (a .q + l .t)) (s .pre .1 .0 .1) ∙ tab-at (placeWeight (length (a .codes .now))) 0 72 (a .q + l .t) (omega (arith, s .pre .0 .0, s .pre .0 .1)) in (
+    ∙ keys-bit (l .t) (a .q) (omega (arith, s .pre .0 .0, s .pre .0 .1)) in (
       search needs,
       length-set (l .symbols) (l .t) _ ∙ l .inv .1,
       over-set 0 _ (l .t) (partSymbols (a .codes .now) (a .q)) (l .symbols) _ (rw (part-length (a .codes .now) (a .q)) here) (l .inv .2)
-          (part-more (a .codes .now) (l .t) (a .q) _ _ _ _ _ _ sum (c .before .before .before .before .code-bit .ensures) key refl weight (c .added .ensures)),
+          (part-more (a .codes .now) (l .t) (a .q) _ _ _ _ _ _ (sum-known turn) (c .before .before .before .before .code-bit .ensures) key refl (value-known turn) (c .added .ensures)),
     )
 
 same-length : tie.Need-same-length Inv-loop μ-loop
@@ -131,17 +134,13 @@ add-character-spec =
     shared-slice-read-code
     loop-holds
     code-bit-requires
-    mul-bit
     element-copy-out-bit
     cast-bit
     shr-bit
-    mul-added
     slice-read-added
     add-added
-    mul-added-2
     element-copy-out-added
     added-requires
-    mul-symbols
     slice-write-symbols
     add-t
     loop-less

@@ -1,10 +1,9 @@
 use native.Mathlib.Omega.{arith}
-use borrow.Author.Needs.{needs}
 use Rattle.block_encoder.proofs.symbols.added.Statement.{statement}
 use Rattle.block_encoder.proofs.symbols.added.Tie as tie
 
 add-result : tie.Need-add-result
-add-result c = search needs
+add-result c = let fits = rw (c .if1 .taken) at (c .before .pre) in omega (arith, fits)
 
 returns : tie.Need-returns
 returns c = rw (c .if1 .taken) (omega arith)

@@ -6,25 +6,25 @@ use borrow.Author.Needs.{needs}
 use Rattle.lists.specs.Lists.{tab}
 use Rattle.refusal.proofs.Limits.{mode-range}
 use Rattle.chain.specs.Chain.{symbolAt}
-use Rattle.chain.specs.Tables.{placeWeight}
-use Rattle.chain.proofs.Weights.{mode-weights}
+use Rattle.chain.specs.Tables.{placeValue}
+use Rattle.chain.proofs.Values.{mode-values}
 use Rattle.block_encoder.specs.Internal.{partSymbols}
 use Rattle.block_encoder.proofs.PartSymbols.{part-none, part-length, part-all}
 use Rattle.block_encoder.proofs.symbols.of_codes.Statement.{statement}
 use Rattle.block_encoder.proofs.symbols.of_codes.Tie as tie
 
 abbrev Inv-loop : tie.InvT-loop
-Inv-loop mode codes keys weights symbols₀ q₀ symbols q =
+Inv-loop mode codes keys values symbols₀ q₀ symbols q =
     (q ≤ length codes) × (length symbols ≡ 64) × (symbols ≡ partSymbols codes q)
 
 abbrev μ-loop : tie.MeasureT-loop
-μ-loop mode codes keys weights symbols₀ q₀ symbols q = length codes - q
+μ-loop mode codes keys values symbols₀ q₀ symbols q = length codes - q
 
 keys-requires : tie.Need-keys-requires Inv-loop μ-loop
 keys-requires c κs = search needs
 
-weights-requires : tie.Need-weights-requires Inv-loop μ-loop
-weights-requires c κs = search needs
+values-requires : tie.Need-values-requires Inv-loop μ-loop
+values-requires c κs = search needs
 
 loop-holds : tie.Need-loop-holds Inv-loop μ-loop
 loop-holds c = (search needs, refl, part-none _)
@@ -36,8 +36,8 @@ add-character-requires : tie.Need-add-character-requires Inv-loop μ-loop
 add-character-requires c κs =
     let l = c .before .before .before .before .loop in
     let s = c .before .before .before .before .before .before .before .before in
-    let weights = c .before .before .before .before .before .weights .ensures ∙ mode-weights (s .args .mode) (s .pre .0) ∙ ap (λ (b : ℕ). tab (placeWeight b) 72) (sym (s .pre .1)) in
-    ((omega arith, omega (arith, s .pre .1, mode-range (s .args .mode) (s .pre .0) .1)), ((c .before .before .before .before .before .before .keys .ensures, weights), l .inv .2))
+    let values = c .before .before .before .before .before .values .ensures ∙ mode-values (s .args .mode) (s .pre .0) ∙ ap (λ (b : ℕ). tab (placeValue b) 72) (sym (s .pre .1)) in
+    ((omega arith, omega (arith, s .pre .1, mode-range (s .args .mode) (s .pre .0) .1)), ((c .before .before .before .before .before .before .keys .ensures, values), l .inv .2))
 
 add-q : tie.Need-add-q Inv-loop μ-loop
 add-q c = search needs
@@ -64,7 +64,7 @@ of-codes-spec =
     Inv-loop
     μ-loop
     keys-requires
-    weights-requires
+    values-requires
     loop-holds
     slice-aggregate-add-character
     add-character-requires

@@ -1,0 +1,24 @@
+use mathlib.Core.Path.{_∙_, ap}
+use borrow.Author.Needs.{needs}
+use Rattle.olivia.specs.Told.{blockTold}
+use Rattle.olivia.proofs.Carried.{block-heard-small}
+use Rattle.olivia.proofs.olivia_decode_weighted.Statement.{statement}
+use Rattle.olivia.proofs.olivia_decode_weighted.Tie as tie
+
+decode-weighted-requires : tie.Need-decode-weighted-requires
+decode-weighted-requires c κs = search needs
+
+told-block-requires : tie.Need-told-block-requires
+told-block-requires c κs = rw (c .before .before .decode-weighted .ensures .0) (block-heard-small _ _ _ _ _ _)
+
+same-length : tie.Need-same-length
+same-length c = search needs
+
+returns : tie.Need-returns
+returns c =
+    let called = c .before .before .before .decode-weighted in
+    (c .told-block .ensures ∙ ap blockTold (called .ensures .0), called .ensures .1)
+
+pub olivia-decode-weighted-spec : {M : Type 1} → statement M
+olivia-decode-weighted-spec =
+    tie.close (tie.spec decode-weighted-requires told-block-requires same-length returns)

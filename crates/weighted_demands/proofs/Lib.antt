@@ -1,0 +1,3 @@
+pub mod Multiples
+pub mod Silences
+pub mod Demands

@@ -1,0 +1,2 @@
+pub mod Demand
+pub mod Laws
