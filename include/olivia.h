@@ -3,7 +3,8 @@
  * A mode b is 1 to 8: a symbol has b bits, a block b characters, and a tone is below 2^b. A block is 64 tones.
  * Tone 65535 marks a missing one, and may stand only in tones to be decoded. A code is one byte, 0 to 127. A
  * message is 0 to 1,024 codes from 1 to 127. The set lead, least_lead, is 1 to 64: what a character's lead has
- * to reach to be clear.
+ * to reach to be clear. A weight says how sure a tone is, from 0 to 15; where weights are passed the set lead is
+ * 1 to 960.
  *
  * What a caller owes. A pointer with a count n is to n elements that may be read, and a pointer with a room is
  * to as many elements that may be read and written. Each is aligned for its type. With 0 elements it is not
@@ -19,18 +20,20 @@
  * Refusals, with the place that is told, which is 0 unless the table says another:
  *
  *    1  the mode is not 1 to 8
- *    2  the set lead is not 1 to 64
+ *    2  the set lead is not 1 to 64, or with weights not 1 to 960
  *    3  the width is not 125, 250, 500, 1000 or 2000
  *    4  the centre is above 10,000, or twice the centre is below the width
  *    5  a block has not exactly b codes, or a message has over 1,024
  *    6  a code of 128 or more, in a message also code 0; place of the lowest
- *    7  a block has not exactly 64 tones, or a message's tones are no multiple of 64 or over 64 * ceil(1024 / b)
+ *    7  a block has not exactly 64 tones, or where weights are passed not exactly 64 of them, or a message's tones
+ *       are no multiple of 64 or over 64 * ceil(1024 / b)
  *    8  a tone that is not below 2^b, nor a missing mark where that is allowed; the lowest place (a frequency: 0)
  *    9  the output is shorter than 64 tones a block encoded, or b bytes a block decoded
  *   10  unclear; place of the lowest unclear character, counted from the text's start, and its lead
  *   11  a 0 before the end of a message's text, place of the first; if none, and at least b codes
  *       stand from the end on, place of the end
  *   12  a message's text is over 1,024 codes; place 1,024
+ *   14  a weight above 15, of a missing tone too; the lowest place
  */
 #ifndef OLIVIA_H
 #define OLIVIA_H
@@ -53,9 +56,9 @@ typedef struct {
 
 /* The record of a character: why it was chosen. word is the winning Walsh word, 0 to 63: the lowest-numbered of
  * those whose correlation has the largest magnitude. next is the runner-up: the lowest-numbered of those with the
- * largest magnitude among the other 63. correlation and next_correlation are theirs, signed, -64 to 64. lead is
- * the magnitude of correlation minus that of next_correlation, and code is word, plus 64 if correlation is
- * negative. So too for an unclear character, whose code is not written. */
+ * largest magnitude among the other 63. correlation and next_correlation are theirs, signed, -64 to 64, or with
+ * weights -960 to 960. lead is the magnitude of correlation minus that of next_correlation, and code is word,
+ * plus 64 if correlation is negative. So too for an unclear character, whose code is not written. */
 typedef struct {
     uint32_t code, lead, word;
     int32_t correlation;
@@ -85,6 +88,13 @@ typedef struct {
     uint32_t replaced, missing;
 } olivia_trial;
 
+/* The answers of the three calls of a trial with weights, and its damage D; a D that 32 bits do not hold is told
+ * as 4294967295. */
+typedef struct {
+    olivia_answer encoded, first, second;
+    uint32_t damage;
+} olivia_weighted_trial;
+
 /* Encodes the n codes of a block. Checks 1, 5, 9, 6. Accepted: count is 64, and the first 64 elements of tones
  * are the block's tones. */
 olivia_answer olivia_encode_block(uint32_t mode, const uint8_t *codes, size_t n, uint16_t *tones, size_t room);
@@ -93,6 +103,15 @@ olivia_answer olivia_encode_block(uint32_t mode, const uint8_t *codes, size_t n,
  * set lead: count is b, and the first b elements of codes are the block's codes. */
 olivia_block olivia_decode_block(uint32_t mode, uint32_t least_lead, const uint16_t *tones, size_t n,
                                  uint8_t *codes, size_t room);
+
+/* Decodes the n tones of a block with a weight for each, by which its symbol counts: what olivia_decode_block sums
+ * as +1 or -1 is here + or - the weight, and 0 for a missing tone, whatever its weight. Checks 1, 2, 7, 9, 8, 14,
+ * 10. Accepted as there. With weight 15 throughout and 15 times the set lead it answers as olivia_decode_block
+ * does, but that every lead and correlation is 15 times as large, and writes the same; with weight 1 throughout
+ * and the same set lead, from 1 to 64, it answers and writes exactly the same. A tone of weight 0 counts like a
+ * missing one, but has to be one of the mode's all the same. */
+olivia_block olivia_decode_weighted(uint32_t mode, uint32_t least_lead, const uint16_t *tones, size_t n,
+                                    const uint8_t *weights, size_t weights_n, uint8_t *codes, size_t room);
 
 /* Encodes a text of n codes; code 0 fills the last block. Checks 1, 5, 9, 6. Accepted: count is
  * 64 * ceil(n / b), and so many elements at the front of tones are the message's tones. */
@@ -120,6 +139,21 @@ olivia_hertz olivia_frequency(uint32_t mode, uint32_t width, uint32_t centre, ui
 olivia_trial olivia_trial_run(uint32_t mode, uint32_t least_lead, const uint8_t *text, size_t n,
                               const uint16_t *heard, size_t heard_n, uint16_t *tones, size_t tones_room,
                               uint8_t *one, size_t one_room, uint8_t *two, size_t two_room);
+
+/* Encodes the block text into tones, decodes the tones written with weight 15 throughout into first, and decodes
+ * heard with the weights into second. Each answer and output is that of the call of olivia_encode_block or
+ * olivia_decode_weighted; if encoding is refused, no tone is sent. damage is D, the sum over the places of heard of
+ * 15 at a mark, 15 plus the weight where another tone than the one sent is heard, and 15 minus the weight, or 0 if
+ * that is less, at every other; the weight is 0 where none is passed. If text is b codes below 128, heard is 64
+ * tones below 2^b or marks with 64 weights up to 15, and no setting or room is refused, then encoded has number 0
+ * and count 64, and first number 0 and count b with text in its output. If 960 - 2D is at least the set lead,
+ * second is the same with text in its output. If 2D is below 960 plus the set lead, second is that, or has number
+ * 10 with the place and lead of the lowest unclear character, and its output is as it was. */
+olivia_weighted_trial olivia_weighted_trial_run(uint32_t mode, uint32_t least_lead, const uint8_t *text, size_t n,
+                                                const uint16_t *heard, size_t heard_n, const uint8_t *weights,
+                                                size_t weights_n, uint16_t *tones, size_t tones_room,
+                                                uint8_t *first, size_t first_room, uint8_t *second,
+                                                size_t second_room);
 
 #ifdef __cplusplus
 }

@@ -17,6 +17,8 @@ static_assert(offsetof(olivia_character, code) == 0 && offsetof(olivia_character
 static_assert(offsetof(olivia_block, characters) == 16 && sizeof(olivia_block) == 208, "an answer and eight records");
 static_assert(offsetof(olivia_hertz, hertz) == 8 && sizeof(olivia_hertz) == 16, "two numbers and a double");
 static_assert(offsetof(olivia_trial, replaced) == 48 && sizeof(olivia_trial) == 56, "three answers and two numbers");
+static_assert(offsetof(olivia_weighted_trial, damage) == 48 && sizeof(olivia_weighted_trial) == 52,
+              "three answers and a number");
 
 static int cases, failures;
 
@@ -116,12 +118,83 @@ static void trials(void)
     check("a trial's texts", memcmp(one, text, 2) == 0 && memcmp(two, text, 2) == 0);
 }
 
+/* Case 7 again, with the 15 tones that are turned at one weight, and the others at weight 15. */
+static void weights(void)
+{
+    static const olivia_character none = {0, 0, 0, 0, 0, 0}, nothing = {0, 0, 0, 0, 1, 0};
+    static const olivia_character full = {0, 60, 0, 510, 1, 450}, low = {0, 510, 0, 735, 1, 225};
+    const uint8_t code = 0;
+    uint16_t tones[TONES];
+    uint8_t weights[TONES], codes[2] = {99, 99};
+
+    olivia_encode_block(1, &code, 1, tones, TONES);
+    for (int t = 0; t < 30; t += 2)
+        tones[t] ^= 1;
+    memset(weights, 15, sizeof weights);
+    olivia_block heard = olivia_decode_weighted(1, 61, tones, TONES, weights, TONES, codes, 2);
+    check("case 7 at weight 15 refused", is(heard.answer, 10, 0, 60, 0) && tells(heard, full) && codes[0] == 99);
+    heard = olivia_decode_weighted(1, 60, tones, TONES, weights, TONES, codes, 2);
+    check("case 7 at weight 15 accepted", is(heard.answer, 0, 0, 0, 1) && tells(heard, full));
+    check("its code", codes[0] == 0 && codes[1] == 99);
+    for (int t = 0; t < 30; t += 2)
+        weights[t] = 0;
+    heard = olivia_decode_weighted(1, 510, tones, TONES, weights, TONES, codes, 1);
+    check("case 7 at weight 0 accepted", is(heard.answer, 0, 0, 0, 1) && tells(heard, low));
+    heard = olivia_decode_weighted(1, 511, tones, TONES, weights, TONES, codes, 1);
+    check("case 7 at weight 0 refused", is(heard.answer, 10, 0, 510, 0) && tells(heard, low));
+
+    weights[63] = 16;
+    heard = olivia_decode_weighted(1, 60, tones, TONES, weights, TONES, codes, 1);
+    check("weight 16", is(heard.answer, 14, 63, 0, 0) && tells(heard, none));
+    tones[63] = MISSING;
+    heard = olivia_decode_weighted(1, 60, tones, TONES, weights, TONES, codes, 1);
+    check("weight 16 of a missing tone", is(heard.answer, 14, 63, 0, 0) && tells(heard, none));
+    heard = olivia_decode_weighted(1, 60, tones, TONES, weights, TONES - 1, codes, 1);
+    check("63 weights", is(heard.answer, 7, 0, 0, 0) && tells(heard, none));
+    heard = olivia_decode_weighted(1, 60, tones, TONES, NULL, 0, codes, 1);
+    check("no weights", is(heard.answer, 7, 0, 0, 0) && tells(heard, none));
+    heard = olivia_decode_weighted(1, 961, tones, TONES, weights, TONES, codes, 1);
+    check("lead 961", is(heard.answer, 2, 0, 0, 0) && tells(heard, none));
+    memset(weights, 0, sizeof weights);
+    heard = olivia_decode_weighted(1, 1, tones, TONES, weights, TONES, codes, 1);
+    check("every weight 0", is(heard.answer, 10, 0, 0, 0) && tells(heard, nothing));
+}
+
+/* D is 15 for the missing tone, 18 and 30 for the replaced ones, 5 for a right one of weight 10, and 0 for the others. */
+static void weighted_trials(void)
+{
+    const uint8_t text[2] = {64, 127};
+    uint16_t heard[TONES], tones[TONES];
+    uint8_t weights[TONES + 1], first[2], second[2];
+
+    olivia_encode_block(2, text, 2, heard, TONES);
+    memset(weights, 15, sizeof weights);
+    heard[3] = MISSING;
+    weights[3] = 7;
+    heard[5] ^= 1;
+    weights[5] = 3;
+    heard[7] ^= 2;
+    weights[9] = 10;
+    olivia_weighted_trial trial = olivia_weighted_trial_run(2, 960 - 2 * 68, text, 2, heard, TONES, weights, TONES,
+                                                            tones, TONES, first, 2, second, 2);
+    check("a weighted trial's answers",
+          is(trial.encoded, 0, 0, 0, TONES) && is(trial.first, 0, 0, 0, 2) && is(trial.second, 0, 0, 0, 2));
+    check("a weighted trial's damage", trial.damage == 68);
+    check("a weighted trial's texts", memcmp(first, text, 2) == 0 && memcmp(second, text, 2) == 0);
+    trial = olivia_weighted_trial_run(2, 960, text, 2, heard, TONES, weights, TONES + 1, tones, TONES, first, 2, second,
+                                      2);
+    check("a weighted trial with 65 weights", is(trial.first, 0, 0, 0, 2) && is(trial.second, 7, 0, 0, 0));
+    check("its damage", trial.damage == 68);
+}
+
 int main(void)
 {
     blocks();
     messages();
     frequencies();
     trials();
+    weights();
+    weighted_trials();
     printf("header: %d cases\n", cases);
     return failures != 0;
 }

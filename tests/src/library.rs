@@ -47,8 +47,17 @@ pub struct Trial {
     pub missing: u32,
 }
 
+#[repr(C)]
+#[derive(Clone, Copy, Debug, Default, PartialEq, Eq)]
+pub struct WeightedTrial {
+    pub encoded: Answer,
+    pub first: Answer,
+    pub second: Answer,
+    pub damage: u32,
+}
+
 mod c {
-    use super::{Answer, Block, Hertz, Trial};
+    use super::{Answer, Block, Hertz, Trial, WeightedTrial};
 
     extern "C" {
         pub fn olivia_encode_block(
@@ -96,6 +105,32 @@ mod c {
             second: *mut u8,
             second_room: usize,
         ) -> Trial;
+        pub fn olivia_decode_weighted(
+            mode: u32,
+            least_lead: u32,
+            tones: *const u16,
+            n: usize,
+            weights: *const u8,
+            weights_n: usize,
+            codes: *mut u8,
+            room: usize,
+        ) -> Block;
+        pub fn olivia_weighted_trial_run(
+            mode: u32,
+            least_lead: u32,
+            text: *const u8,
+            n: usize,
+            heard: *const u16,
+            heard_n: usize,
+            weights: *const u8,
+            weights_n: usize,
+            tones: *mut u16,
+            tones_room: usize,
+            first: *mut u8,
+            first_room: usize,
+            second: *mut u8,
+            second_room: usize,
+        ) -> WeightedTrial;
     }
 }
 
@@ -160,6 +195,59 @@ pub fn trial_run(
             text.len(),
             start(heard),
             heard.len(),
+            start_mut(tones),
+            tones.len(),
+            start_mut(first),
+            first.len(),
+            start_mut(second),
+            second.len(),
+        )
+    }
+}
+
+pub fn decode_weighted(
+    mode: u32,
+    least_lead: u32,
+    tones: &[u16],
+    weights: &[u8],
+    codes: &mut [u8],
+) -> Block {
+    unsafe {
+        c::olivia_decode_weighted(
+            mode,
+            least_lead,
+            start(tones),
+            tones.len(),
+            start(weights),
+            weights.len(),
+            start_mut(codes),
+            codes.len(),
+        )
+    }
+}
+
+/// Encodes `text` into `tones`, decodes what was written with weight 15 throughout into the first of `texts`, and `heard` with
+/// `weights` into the second.
+pub fn weighted_trial_run(
+    mode: u32,
+    least_lead: u32,
+    text: &[u8],
+    heard: &[u16],
+    weights: &[u8],
+    tones: &mut [u16],
+    texts: [&mut [u8]; 2],
+) -> WeightedTrial {
+    let [first, second] = texts;
+    unsafe {
+        c::olivia_weighted_trial_run(
+            mode,
+            least_lead,
+            start(text),
+            text.len(),
+            start(heard),
+            heard.len(),
+            start(weights),
+            weights.len(),
             start_mut(tones),
             tones.len(),
             start_mut(first),

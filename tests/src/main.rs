@@ -3,21 +3,26 @@
 
 mod groups;
 
-use groups::{cases, compare, demand3, listing, records, sheet, vectors, words, Report};
+use groups::{cases, compare, demand3, listing, plain, records, sheet};
+use groups::{vectors, weight0, weighted, weights, words, Report};
 use olivia_tests::paper;
 use std::io::{self, Read, Write};
 use std::process::ExitCode;
 
 type Group = (&'static str, fn() -> Report);
 
-const GROUPS: [Group; 8] = [
+const GROUPS: [Group; 12] = [
     ("vectors", vectors::run),
     ("words", words::run),
     ("sheet", sheet::run),
     ("records", records::run),
+    ("weights", weights::run),
     ("cases", cases::run),
     ("compare", compare::run),
+    ("plain", plain::run),
+    ("weight0", weight0::run),
     ("demand3", demand3::run),
+    ("weighted", weighted::run),
     ("listing", listing::run),
 ];
 

@@ -1,4 +1,4 @@
-//! Calls the library so many times on one input, for a tool that counts instructions: `count encode|decode|message MODE TIMES`.
+//! Calls the library so many times on one input, for a tool that counts instructions: `count encode|decode|weighted|message MODE TIMES`.
 
 use olivia_tests::library;
 use std::hint::black_box;
@@ -16,6 +16,7 @@ fn main() -> ExitCode {
     match words[0].as_str() {
         "encode" => encode(mode, times),
         "decode" => decode(mode, times),
+        "weighted" => weighted(mode, times),
         "message" => message(mode, times),
         _ => return usage(),
     }
@@ -23,7 +24,7 @@ fn main() -> ExitCode {
 }
 
 fn usage() -> ExitCode {
-    eprintln!("usage: count encode|decode|message MODE TIMES");
+    eprintln!("usage: count encode|decode|weighted|message MODE TIMES");
     ExitCode::FAILURE
 }
 
@@ -50,6 +51,25 @@ fn decode(mode: u32, times: u32) {
     let mut codes = [0; 8];
     for _ in 0..times {
         let block = library::decode_block(mode, LEAST_LEAD, black_box(&tones), &mut codes);
+        assert_eq!(black_box(block).answer.number, 0);
+    }
+}
+
+/// With weights of every size.
+fn weighted(mode: u32, times: u32) {
+    let mut tones = [0; 64];
+    let sent = library::encode_block(mode, &letters(mode as usize), &mut tones);
+    assert_eq!(sent.number, 0);
+    let weights: Vec<u8> = (0..64).map(|t| 15 - t % 16).collect();
+    let mut codes = [0; 8];
+    for _ in 0..times {
+        let block = library::decode_weighted(
+            mode,
+            LEAST_LEAD,
+            black_box(&tones),
+            black_box(&weights),
+            &mut codes,
+        );
         assert_eq!(black_box(block).answer.number, 0);
     }
 }

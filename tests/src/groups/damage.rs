@@ -56,22 +56,34 @@ pub enum Aim {
 
 pub const AIMS: [Aim; 3] = [Aim::Anywhere, Aim::OneCharacter, Aim::EveryCharacter];
 
-/// The tones of a block with these codes, so damaged.
-pub fn damaged(random: &mut Random, b: usize, codes: &[u8], amount: Amount, aim: Aim) -> Vec<u16> {
-    let mut tones = paper::block_tones(b, codes);
-    let q = random.below(b);
-    let places = match aim {
-        Aim::Anywhere => random.shuffled(paper::SYMBOLS),
-        Aim::OneCharacter | Aim::EveryCharacter => towards_a_rival(random, codes[q]),
-    };
-    let (replaced, others) = places.split_at(amount.replaced);
-    for &t in replaced {
-        let turned = match aim {
+impl Aim {
+    /// All places, those that the damage goes to first in front. The code is that of the character aimed at.
+    pub fn places(self, random: &mut Random, code: u8) -> Vec<usize> {
+        match self {
+            Aim::Anywhere => random.shuffled(paper::SYMBOLS),
+            Aim::OneCharacter | Aim::EveryCharacter => towards_a_rival(random, code),
+        }
+    }
+
+    /// The tone that replaces this one, which was sent at place t; q is the character aimed at.
+    pub fn replaced(self, random: &mut Random, b: usize, q: usize, t: usize, tone: u16) -> u16 {
+        let turned = match self {
             Aim::Anywhere => random.between(1, paper::tone_count(b) - 1),
             Aim::OneCharacter => 1 << paper::place_in_symbol(b, q, t),
             Aim::EveryCharacter => paper::tone_count(b) - 1,
         };
-        tones[t] = paper::tone_of(paper::symbol_of(tones[t]) ^ turned as u16);
+        paper::tone_of(paper::symbol_of(tone) ^ turned as u16)
+    }
+}
+
+/// The tones of a block with these codes, so damaged.
+pub fn damaged(random: &mut Random, b: usize, codes: &[u8], amount: Amount, aim: Aim) -> Vec<u16> {
+    let mut tones = paper::block_tones(b, codes);
+    let q = random.below(b);
+    let places = aim.places(random, codes[q]);
+    let (replaced, others) = places.split_at(amount.replaced);
+    for &t in replaced {
+        tones[t] = aim.replaced(random, b, q, t, tones[t]);
     }
     for &t in &others[..amount.missing] {
         tones[t] = paper::MISSING;

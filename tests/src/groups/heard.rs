@@ -18,12 +18,7 @@ pub fn expect_clear(
     tones: &[u16],
     records: &[Numbers],
 ) -> Result<(), String> {
-    let answer = Answer {
-        count: records.len() as u32,
-        ..Answer::default()
-    };
-    let codes: Vec<u8> = records.iter().map(|numbers| numbers[0] as u8).collect();
-    expect(mode, least_lead, tones, block(answer, records), &codes)
+    expect(mode, least_lead, tones, Wanted::clear(records))
 }
 
 /// The character at this place is the first that is not clear.
@@ -34,13 +29,7 @@ pub fn expect_unclear(
     place: usize,
     records: &[Numbers],
 ) -> Result<(), String> {
-    let answer = Answer {
-        number: 10,
-        place: place as u32,
-        lead: records[place][1] as u32,
-        count: 0,
-    };
-    expect(mode, least_lead, tones, block(answer, records), &[])
+    expect(mode, least_lead, tones, Wanted::unclear(place, records))
 }
 
 /// Refused before any character is decided: no record has anything in it.
@@ -51,12 +40,72 @@ pub fn expect_refused(
     number: u32,
     place: u32,
 ) -> Result<(), String> {
-    let answer = Answer {
-        number,
-        place,
-        ..Answer::default()
-    };
-    expect(mode, least_lead, tones, block(answer, &[]), &[])
+    expect(mode, least_lead, tones, Wanted::refused(number, place))
+}
+
+fn expect(mode: u32, least_lead: u32, tones: &[u16], wanted: Wanted) -> Result<(), String> {
+    let said = paper::decode_block(mode, least_lead, tones, ROOM);
+    let mut output = Lent::output(ROOM);
+    let given = library::decode_block(mode, least_lead, tones, output.part());
+    wanted.expect(&said, given, &output)
+}
+
+/// What is to be heard: the answer with its records, and the codes that are written.
+pub struct Wanted {
+    block: Block,
+    codes: Vec<u8>,
+}
+
+impl Wanted {
+    pub fn clear(records: &[Numbers]) -> Self {
+        let answer = Answer {
+            count: records.len() as u32,
+            ..Answer::default()
+        };
+        let codes = records.iter().map(|numbers| numbers[0] as u8).collect();
+        Wanted {
+            block: block(answer, records),
+            codes,
+        }
+    }
+
+    pub fn unclear(place: usize, records: &[Numbers]) -> Self {
+        let answer = Answer {
+            number: 10,
+            place: place as u32,
+            lead: records[place][1] as u32,
+            count: 0,
+        };
+        Wanted {
+            block: block(answer, records),
+            codes: vec![],
+        }
+    }
+
+    pub fn refused(number: u32, place: u32) -> Self {
+        let answer = Answer {
+            number,
+            place,
+            ..Answer::default()
+        };
+        Wanted {
+            block: block(answer, &[]),
+            codes: vec![],
+        }
+    }
+
+    /// The paper says this, and the library gives it.
+    pub fn expect(
+        &self,
+        said: &paper::Heard,
+        given: Block,
+        output: &Lent<u8>,
+    ) -> Result<(), String> {
+        expect_equal("heard, by the paper", self.block, block_of(said))?;
+        expect_equal("codes, by the paper", &self.codes[..], written(&said.text))?;
+        expect_equal("heard", self.block, given)?;
+        output.expect("codes", &self.codes)
+    }
 }
 
 fn block(answer: Answer, records: &[Numbers]) -> Block {
@@ -72,20 +121,4 @@ fn block(answer: Answer, records: &[Numbers]) -> Block {
         answer,
         characters: eight(records),
     }
-}
-
-fn expect(
-    mode: u32,
-    least_lead: u32,
-    tones: &[u16],
-    wanted: Block,
-    codes: &[u8],
-) -> Result<(), String> {
-    let said = paper::decode_block(mode, least_lead, tones, ROOM);
-    expect_equal("heard, by the paper", wanted, block_of(&said))?;
-    expect_equal("codes, by the paper", codes, written(&said.text))?;
-    let mut output = Lent::output(ROOM);
-    let given = library::decode_block(mode, least_lead, tones, output.part());
-    expect_equal("heard", wanted, given)?;
-    output.expect("codes", codes)
 }

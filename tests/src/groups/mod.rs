@@ -7,9 +7,15 @@ pub mod demand3;
 mod heard;
 mod lent;
 pub mod listing;
+pub mod plain;
+mod receivers;
 pub mod records;
 pub mod sheet;
 pub mod vectors;
+mod weighing;
+pub mod weight0;
+pub mod weighted;
+pub mod weights;
 pub mod words;
 
 use olivia_tests::library::{Answer, Block, Character};

@@ -11,13 +11,18 @@ pub fn symbol_of(tone: u16) -> u16 {
         .expect("a tone below 256")
 }
 
-/// "A heard bit counts +1 for 0 and −1 for 1; a missing symbol counts 0 for every character."
-fn counts_of(b: usize, symbols: &[Option<u16>], q: usize) -> Vec<i32> {
+/// The weights of plain hearing. With weights it is the "case with weight 15 at lead 15 × m, correlations and leads divided by 15"
+/// (document 02, order 3), which is weight 1 at lead m.
+pub const PLAIN: [u8; SYMBOLS] = [1; SYMBOLS];
+
+/// "A heard bit counts +1 for 0 and −1 for 1; a missing symbol counts 0 for every character." In document 02, order 3: "64 weights,
+/// each multiplying its symbol's +1 or −1; a missing tone has weight 0 whatever was sent."
+fn counts_of(b: usize, symbols: &[Option<u16>], weights: &[u8], q: usize) -> Vec<i32> {
     let count_at = |t: usize| match symbols[t] {
         None => 0,
         Some(symbol) => match (symbol >> place_in_symbol(b, q, t) & 1) ^ key_bit(q, t) {
-            0 => 1,
-            _ => -1,
+            0 => i32::from(weights[t]),
+            _ => -i32::from(weights[t]),
         },
     };
     (0..SYMBOLS).map(count_at).collect()
@@ -37,13 +42,13 @@ fn correlation(counts: &[i32], c: usize) -> i32 {
 
 /// "The 64 correlations of one character are the sums over t of that count times the sign of each word": those of each of the b
 /// characters.
-pub fn correlations(b: usize, tones: &[u16]) -> Vec<Vec<i32>> {
+pub fn correlations(b: usize, tones: &[u16], weights: &[u8]) -> Vec<Vec<i32>> {
     let symbols: Vec<Option<u16>> = tones
         .iter()
         .map(|&tone| (tone != MISSING).then(|| symbol_of(tone)))
         .collect();
     let of_character = |q: usize| {
-        let counts = counts_of(b, &symbols, q);
+        let counts = counts_of(b, &symbols, weights, q);
         (0..64).map(|c| correlation(&counts, c)).collect()
     };
     (0..b).map(of_character).collect()
@@ -96,9 +101,19 @@ pub struct Heard {
     pub text: Result<Vec<u8>, Refusal>,
 }
 
+impl Heard {
+    /// Refused before any character is decided.
+    pub fn nothing(refusal: Refusal) -> Self {
+        Heard {
+            characters: vec![],
+            text: Err(refusal),
+        }
+    }
+}
+
 /// "A character is clear if its lead is at least m. A block is accepted if all b characters are clear."
-pub fn hear(b: usize, least_lead: u32, tones: &[u16]) -> Heard {
-    let characters: Vec<Character> = correlations(b, tones)
+pub fn hear(b: usize, least_lead: u32, tones: &[u16], weights: &[u8]) -> Heard {
+    let characters: Vec<Character> = correlations(b, tones, weights)
         .iter()
         .map(|correlations| decide(correlations))
         .collect();
@@ -121,10 +136,7 @@ pub fn decode_block(mode: u32, least_lead: u32, tones: &[u16], room: usize) -> H
         Ok(b)
     };
     match checked() {
-        Ok(b) => hear(b, least_lead, tones),
-        Err(refusal) => Heard {
-            characters: vec![],
-            text: Err(refusal),
-        },
+        Ok(b) => hear(b, least_lead, tones, &PLAIN),
+        Err(refusal) => Heard::nothing(refusal),
     }
 }

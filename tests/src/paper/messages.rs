@@ -1,6 +1,6 @@
 //! Messages.
 
-use super::hearing::hear;
+use super::hearing::{hear, PLAIN};
 use super::refusals::{
     check_heard, check_lead, checked_mode, refusal, require, require_each, unclear, Refusal,
 };
@@ -37,7 +37,7 @@ pub fn decode_message(
     check_heard(b, tones)?;
     let mut codes = vec![];
     for (k, block) in tones.chunks(SYMBOLS).enumerate() {
-        let text = hear(b, least_lead, block).text;
+        let text = hear(b, least_lead, block, &PLAIN).text;
         codes.extend(text.map_err(|refusal| unclear(b * k + refusal.place, refusal.lead))?);
     }
     text_of(b, &codes)

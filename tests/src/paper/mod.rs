@@ -1,5 +1,5 @@
-//! Document 01 ("Olivia text link: from characters to tones and back"), with order 5 of document 02, written down a second time, to
-//! hold the library and the listing program against.
+//! Document 01 ("Olivia text link: from characters to tones and back"), with orders 3 and 5 of document 02, written down a second
+//! time, to hold the library and the listing program against.
 //!
 //! Each function quotes the rule that it is. Nothing here is fast or shared with the library: a correlation is a sum over 64
 //! places, and the symbol of a tone is searched for. A function hands back what an entry has to write; `room` is the length of the
@@ -12,10 +12,13 @@ mod listing;
 mod messages;
 mod refusals;
 mod sending;
+mod weights;
 
-pub use demand::{trial, Trial};
+pub use demand::{
+    damage, keeps_text, shuts_out_others, trial, weighted_trial, Trial, WeightedTrial,
+};
 pub use frequencies::frequency;
-pub use hearing::{correlations, decode_block, symbol_of, Character, Heard};
+pub use hearing::{correlations, decode_block, symbol_of, Character, Heard, PLAIN};
 pub use listing::listed;
 pub use messages::{decode_message, encode_message};
 pub use refusals::Refusal;
@@ -23,12 +26,19 @@ pub use sending::{
     block_symbols, block_tones, code_bit, encode_block, key_bit, place_in_symbol, reference_word,
     tone_of,
 };
+pub use weights::decode_weighted;
 
 /// "A block is 64 symbols."
 pub const SYMBOLS: usize = 64;
 
 /// "Tones are 16-bit numbers; 65535 marks a missing one."
 pub const MISSING: u16 = 65535;
+
+/// "Newer boards send a weight from 0 to 15 with each tone" (document 02, order 3).
+pub const GREATEST_WEIGHT: u8 = 15;
+
+/// "With weights, m runs from 1 to 960" (document 02, order 3).
+pub const GREATEST_LEAD: u32 = 960;
 
 /// "A message is 0 to 1,024 codes from 1 to 127."
 pub const LONGEST_MESSAGE: usize = 1024;

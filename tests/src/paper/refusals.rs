@@ -1,6 +1,6 @@
 //! Who can cause a refusal.
 
-use super::{tone_count, MISSING};
+use super::{tone_count, GREATEST_LEAD, GREATEST_WEIGHT, MISSING};
 
 /// "A refusal returns its number and a place (0 unless stated) and writes nothing." Number 10 has a lead too.
 #[derive(Clone, Copy, Debug, PartialEq, Eq)]
@@ -58,8 +58,18 @@ pub fn check_lead(least_lead: u32) -> Result<(), Refusal> {
     require((1..=64).contains(&least_lead), 2)
 }
 
+/// "With weights, m runs from 1 to 960 under refusal 2" (document 02, order 3).
+pub fn check_weighted_lead(least_lead: u32) -> Result<(), Refusal> {
+    require((1..=GREATEST_LEAD).contains(&least_lead), 2)
+}
+
 /// "8 a tone that is neither below 2^b nor an allowed missing mark; lowest place."
 pub fn check_heard(b: usize, tones: &[u16]) -> Result<(), Refusal> {
     let wrong = |tone: u16| usize::from(tone) >= tone_count(b) && tone != MISSING;
     require_each(tones, wrong, 8)
+}
+
+/// "14, a weight above 15, at a missing tone too, lowest place" (document 02, order 3).
+pub fn check_weights(weights: &[u8]) -> Result<(), Refusal> {
+    require_each(weights, |weight| weight > GREATEST_WEIGHT, 14)
 }

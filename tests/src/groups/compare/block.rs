@@ -31,13 +31,7 @@ pub fn tones_to_hear(
     wrong: &Wrong,
 ) -> Vec<u16> {
     let mut tones = draw::heard(random, b, text, least_lead);
-    if wrong.content {
-        draw::spoil(random, &mut tones, |random| draw::wrong_tone(random, b));
-    }
-    if wrong.count {
-        tones = tones.repeat(4);
-        tones.truncate(draw::wrong_length(random, paper::SYMBOLS));
-    }
+    draw::spoil_tones(random, b, &mut tones, wrong);
     tones
 }
 
@@ -116,8 +110,8 @@ impl super::Case for Decode {
         codes.expect("codes", written(&said.text))?;
         tones.expect("tones handed in", &self.tones)?;
         Ok(Met {
-            numbers: vec![given.answer.number],
-            records: records::kinds(&said, &self.tones),
+            records: records::kinds(&said, &self.tones, &paper::PLAIN),
+            ..Met::numbers(&[given.answer.number])
         })
     }
 }

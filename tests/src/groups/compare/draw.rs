@@ -82,6 +82,25 @@ pub fn spoil<T>(random: &mut Random, values: &mut [T], mut wrong: impl FnMut(&mu
     }
 }
 
+/// Makes a block's tones of a wrong count or with a wrong tone, as asked.
+pub fn spoil_tones(random: &mut Random, b: usize, tones: &mut Vec<u16>, wrong: &Wrong) {
+    if wrong.content {
+        spoil(random, tones, |random| wrong_tone(random, b));
+    }
+    if wrong.count {
+        *tones = tones.repeat(4);
+        tones.truncate(wrong_length(random, paper::SYMBOLS));
+    }
+}
+
+/// These codes, or, where they cannot be sent, others close to them that can.
+pub fn codes_that_can_be_sent(codes: &[u8], b: usize) -> Vec<u8> {
+    let mut sent = codes.to_vec();
+    sent.resize(b, 0);
+    sent.iter_mut().for_each(|code| *code %= 128);
+    sent
+}
+
 /// A code that no output holds.
 pub fn wrong_code(random: &mut Random) -> u8 {
     match random.below(3) {

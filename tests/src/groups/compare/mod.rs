@@ -1,12 +1,14 @@
 //! The library against the paper on random inputs: whole answers, whole outputs with what lies around them, and inputs unchanged.
 
-mod block;
+pub mod block;
 pub mod draw;
 mod frequency;
 mod message;
 mod records;
 mod tally;
 mod trial;
+pub mod weighted;
+mod weighted_trial;
 
 use super::Report;
 use olivia_tests::random::Random;
@@ -23,6 +25,9 @@ trait Case: Debug {
     /// The refusals that the function can give.
     const REFUSALS: &'static [u32];
 
+    /// Pairs of refusals of which a case breaks both limits, and is given the first.
+    const ORDERS: &'static [Order] = &[];
+
     fn draw(random: &mut Random) -> Self;
 
     fn mode(&self) -> u32;
@@ -31,10 +36,14 @@ trait Case: Debug {
     fn compare(&self) -> Result<Met, String>;
 }
 
-/// What both sides gave: the numbers of their answers, and the kinds of each record in them.
+/// A refusal that was given, and one that was not, though its limit is broken too.
+type Order = (u32, u32);
+
+/// What both sides gave: the numbers of their answers, the kinds of each record in them, and which checks came before others.
 struct Met {
     numbers: Vec<u32>,
     records: Vec<Kinds>,
+    orders: Vec<Order>,
 }
 
 impl Met {
@@ -42,6 +51,7 @@ impl Met {
         Met {
             numbers: numbers.to_vec(),
             records: vec![],
+            orders: vec![],
         }
     }
 }
@@ -55,6 +65,8 @@ pub fn run() -> Report {
     many::<message::Decode>(&mut random, &mut tally, 20_000)?;
     many::<frequency::Frequency>(&mut random, &mut tally, 60_000)?;
     many::<trial::Trial>(&mut random, &mut tally, 40_000)?;
+    many::<weighted::Decode>(&mut random, &mut tally, 80_000)?;
+    many::<weighted_trial::Trial>(&mut random, &mut tally, 40_000)?;
     tally.expect_every_refusal()?;
     tally.expect_every_kind()?;
     Ok(tally.lines())

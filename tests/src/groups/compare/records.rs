@@ -14,12 +14,12 @@ pub const KINDS: [&str; 6] = [
 /// Which kinds a record is of.
 pub type Kinds = [bool; KINDS.len()];
 
-/// The kinds of each record of a block with these tones.
-pub fn kinds(said: &Heard, tones: &[u16]) -> Vec<Kinds> {
+/// The kinds of each record of a block with these tones and weights.
+pub fn kinds(said: &Heard, tones: &[u16], weights: &[u8]) -> Vec<Kinds> {
     if said.characters.is_empty() {
         return vec![];
     }
-    let correlations = paper::correlations(said.characters.len(), tones);
+    let correlations = paper::correlations(said.characters.len(), tones, weights);
     let records = said.characters.iter().zip(correlations);
     records
         .map(|(character, correlations)| kinds_of(character, &correlations))

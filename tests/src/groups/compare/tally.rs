@@ -1,13 +1,16 @@
-//! How often each function, mode and refusal, and each kind of record was met.
+//! How often each function, mode, refusal and order of two checks, and each kind of record was met.
 
 use super::records::KINDS;
-use super::{Case, Met};
+use super::{Case, Met, Order};
 use std::collections::BTreeMap;
 
 /// Modes that every function has to meet.
 pub const MODES: [u32; 13] = [1, 2, 3, 4, 5, 6, 7, 8, 0, 9, 16, 24, u32::MAX];
 
-/// Each kind of record is met at least so often.
+/// The refusals of document 01, and that of order 3 of document 02.
+const REFUSALS: [u32; 13] = [1, 2, 3, 4, 5, 6, 7, 8, 9, 10, 11, 12, 14];
+
+/// Each kind of record and each order of two checks is met at least so often.
 const OFTEN: usize = 100;
 
 #[derive(Default)]
@@ -19,9 +22,11 @@ pub struct Tally {
 pub struct Row {
     function: &'static str,
     refusals: &'static [u32],
+    orders: &'static [Order],
     cases: usize,
     by_mode: BTreeMap<u32, usize>,
     by_number: BTreeMap<u32, usize>,
+    by_order: BTreeMap<Order, usize>,
     records: usize,
     by_kind: [usize; KINDS.len()],
 }
@@ -31,9 +36,11 @@ impl Tally {
         self.rows.push(Row {
             function: C::FUNCTION,
             refusals: C::REFUSALS,
+            orders: C::ORDERS,
             cases: 0,
             by_mode: BTreeMap::new(),
             by_number: BTreeMap::new(),
+            by_order: BTreeMap::new(),
             records: 0,
             by_kind: [0; KINDS.len()],
         });
@@ -48,7 +55,7 @@ impl Tally {
     }
 
     pub fn expect_every_refusal(&self) -> Result<(), String> {
-        match (1..=12).find(|&number| self.met(number) == 0) {
+        match REFUSALS.iter().find(|&&number| self.met(number) == 0) {
             Some(number) => Err(format!("refusal {number} was never met")),
             None => Ok(()),
         }
@@ -71,16 +78,18 @@ impl Tally {
 
     pub fn lines(&self) -> String {
         let cases: usize = self.rows.iter().map(|row| row.cases).sum();
-        let numbers: Vec<String> = (0..=12)
+        let numbers: Vec<String> = std::iter::once(0)
+            .chain(REFUSALS)
             .map(|number| format!("{number}: {}", self.met(number)))
             .collect();
         let mut lines = format!("{cases} cases\n  answers by number, {}", numbers.join(", "));
         for row in &self.rows {
             lines += &format!(
-                "\n  {}: {} cases, {}",
+                "\n  {}: {} cases, {}{}",
                 row.function,
                 row.cases,
-                row.numbers()
+                row.numbers(),
+                row.orders()
             );
         }
         let kinds = KINDS.iter().enumerate();
@@ -99,6 +108,9 @@ impl Row {
         for &number in &met.numbers {
             *self.by_number.entry(number).or_default() += 1;
         }
+        for &order in &met.orders {
+            *self.by_order.entry(order).or_default() += 1;
+        }
         for kinds in &met.records {
             self.records += 1;
             for (count, &is_kind) in self.by_kind.iter_mut().zip(kinds) {
@@ -115,14 +127,31 @@ impl Row {
         counts.join(", ")
     }
 
-    /// Every mode was handed in, and every answer that the function can give was met.
+    fn order(&self, order: &Order) -> usize {
+        self.by_order.get(order).copied().unwrap_or(0)
+    }
+
+    fn orders(&self) -> String {
+        let counts = self.orders.iter();
+        counts
+            .map(|order| format!(", {} before {}: {}", order.0, order.1, self.order(order)))
+            .collect()
+    }
+
+    /// Every mode was handed in, every answer that the function can give was met, and every order of two checks often.
     pub fn expect_all(&self) -> Result<(), String> {
         if let Some(mode) = MODES.iter().find(|mode| !self.by_mode.contains_key(mode)) {
             return Err(format!("{} never met mode {mode}", self.function));
         }
         let mut numbers = std::iter::once(&0).chain(self.refusals);
-        match numbers.find(|number| !self.by_number.contains_key(number)) {
-            Some(number) => Err(format!("{} never met answer {number}", self.function)),
+        if let Some(number) = numbers.find(|number| !self.by_number.contains_key(number)) {
+            return Err(format!("{} never met answer {number}", self.function));
+        }
+        match self.orders.iter().find(|order| self.order(order) < OFTEN) {
+            Some((first, later)) => Err(format!(
+                "{} seldom met {first} before {later}",
+                self.function
+            )),
             None => Ok(()),
         }
     }

@@ -29,10 +29,7 @@ impl super::Case for Trial {
         let first_short = random.one_in(8);
         let least_lead = draw::least_lead(random, hearing.lead);
         let text = codes_to_send(random, b, &sending);
-        // What is heard comes from the text, or, where that cannot be sent, from one that can.
-        let mut sent = text.clone();
-        sent.resize(b, 0);
-        sent.iter_mut().for_each(|code| *code %= 128);
+        let sent = draw::codes_that_can_be_sent(&text, b);
         Trial {
             mode: draw::mode(random, b, sending.mode && hearing.mode),
             least_lead,
