@@ -45,9 +45,9 @@ module _
     (encoded : (sent ≡ encodeBlock b text (length tones)) × (tones′ ≡ encodedInto b text tones))
     (count : n ≡ countSent sent)
     (damaged : d ≡ capped (damageIn 15 (take n tones′) heard weights))
-    (fifteen : full ≡ throughout 15)
     (heard-first : (first ≡ decodeWeighted b m (take n tones′) full (length one)) × (one′ ≡ weightedInto b m (take n tones′) full one))
     (heard-second : (second ≡ decodeWeighted b m heard weights (length two)) × (two′ ≡ weightedInto b m heard weights two))
+    (fifteen : full ≡ throughout 15)
   where
     on-air : take n tones′ ≡ air b text tones
     unfolding air onAir

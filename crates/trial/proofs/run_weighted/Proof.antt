@@ -63,7 +63,7 @@ returns c =
     let damage = first .before .before .before .before in
     let sent = damage .before .before in
     let encoded = sent .before .before .before in
-    weighted-tried _ _ _ _ _ _ _ _ _ _ _ _ _ _ _ _ _ (encoded .encode-block .ensures) (sent .sent-count .ensures) (damage .damage-in .ensures) refl (first .decode-weighted .ensures) (second .decode-weighted2 .ensures)
+    weighted-tried _ _ _ _ _ _ _ _ _ _ _ _ _ _ _ _ _ (encoded .encode-block .ensures) (sent .sent-count .ensures) (damage .damage-in .ensures) (first .decode-weighted .ensures) (second .decode-weighted2 .ensures) refl
 
 pub run-weighted-spec : {M : Type 1} → statement M
 run-weighted-spec =
