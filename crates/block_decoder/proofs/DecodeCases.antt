@@ -75,6 +75,12 @@ module _ (N b m : ℕ) (tones weights : List ℕ) (room : ℕ) where
       pub judges : 64 ≤ firstBadWeight N weights → heardBlock N b m tones weights room ≡ judged b m (weightedOf b tones weights)
       judges h = rw (le-ltb (firstBadTone (2 ^ b) tones) 64 r, le-ltb (firstBadWeight N weights) 64 h) at in-range
 
+  -- a refusal that is told, with the output as it was
+  pub refusal-told : {d : BlockDecoded} (number place : ℕ) (xs codes : List ℕ) → d ≡ refused number place → heardBlock N b m tones weights room ≡ refused number place
+      → (d ≡ heardBlock N b m tones weights room) × (codes ≡ heardInto (heardBlock N b m tones weights room .answer) xs codes)
+  unfolding refused heardInto
+  refusal-told number place xs codes p e = (p ∙ sym e, rw e)
+
 -- the answer by an array that holds the block's characters
 pub same-decoded : (b m : ℕ) (tones weights : List ℕ) {answer : Decoded} {found : List Character} → answer ≡ judgementIn b m found
     → found ≡ padded (weightedOf b tones weights) → _≡_ {A = BlockDecoded} (record { answer = answer; characters = found }) (judged b m (weightedOf b tones weights))
@@ -136,16 +142,15 @@ accepted N b m tones weights room n e =
 -- ---- the output of an accepted block
 
 -- the codes written out of the answer's array are the block's
-pub codes-put : (N b m : ℕ) (tones weights codes out : List ℕ) (d : BlockDecoded) (n : ℕ) → d ≡ heardBlock N b m tones weights (length codes) → d .answer ≡ Text n
-    → out ≡ over (tab (codeIn (d .characters)) n) codes → out ≡ heardBlockInto N b m tones weights codes
-codes-put N b m tones weights codes out d n e t w =
-    let answer = ap (λ (x : BlockDecoded). x .answer) (sym e) ∙ t in
-    let a = accepted N b m tones weights (length codes) n answer in
-    let characters : d .characters ≡ padded (weightedOf b tones weights) =
-    ap (λ (x : BlockDecoded). x .characters) (e ∙ judges N b m tones weights (length codes) (a .passed) (a .in-range) (a .weights-in-range)) in
+pub codes-put : (N b m : ℕ) (tones weights : List ℕ) (room : ℕ) (codes out : List ℕ) (found : List Character) (n : ℕ) → heardBlock N b m tones weights room .answer ≡ Text n
+    → found ≡ padded (weightedOf b tones weights) → out ≡ over (tab (codeIn found) n) codes
+    → out ≡ heardInto (heardBlock N b m tones weights room .answer) (codesOf (weightedOf b tones weights)) codes
+unfolding heardInto
+codes-put N b m tones weights room codes out found n t e w =
+    let whole = accepted N b m tones weights room n t .whole in
     w
-    ∙ ap (λ (x : List Character). over (tab (codeIn x) n) codes) characters
-    ∙ ap (λ (k : ℕ). over (tab (codeIn (padded (weightedOf b tones weights))) k) codes) (a .whole)
+    ∙ ap (λ (x : List Character). over (tab (codeIn x) n) codes) e
+    ∙ ap (λ (k : ℕ). over (tab (codeIn (padded (weightedOf b tones weights))) k) codes) whole
     ∙ ap (λ (x : List ℕ). over x codes) (codes-padded b tones weights)
-    ∙ ap (λ (k : ℕ). over (take k (codesOf (weightedOf b tones weights))) codes) (sym (a .whole))
-    ∙ sym (codes-written N b m tones weights codes answer)
+    ∙ ap (λ (k : ℕ). over (take k (codesOf (weightedOf b tones weights))) codes) (sym whole)
+    ∙ ap (λ (x : Decoded). heardInto x (codesOf (weightedOf b tones weights)) codes) (sym t)

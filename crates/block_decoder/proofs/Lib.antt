@@ -1,5 +1,6 @@
 pub mod Counts
 pub mod TableCounts
+pub mod Seen
 pub mod Characters
 pub mod Clarity
 pub mod DecodeCases

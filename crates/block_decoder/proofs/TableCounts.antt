@@ -1,32 +1,27 @@
--- What signs by the tables count for a character, with the weights that count, is what the rule counts.
+-- What signs by the tables count for a character is what the rule counts, of symbols that are seen.
 use mathlib.Core.Path.{_≡_, _∙_, ap, ap₂, sym}
 use mathlib.Core.Bool.{Bool, false, not}
 use mathlib.Core.List.{List}
-use mathlib.Core.Logic.{_⊎_, inl, inr, ⊎-elim}
-use Prim.Native.Nat.{ℕ, _+_, _-_, _*_, _/_, _%_, _^_, _<_, _≤_}
+use mathlib.Core.Logic.{⊎-elim}
+use Prim.Native.Nat.{ℕ, _+_, _-_, _*_, _/_, _%_, _^_, _<_}
 use native.Mathlib.Nat.{pow-suc}
 use native.Mathlib.Numerals.{one-add}
 use native.Mathlib.Omega.{arith}
 use lib.Bits.{bitAnd, and-high}
 use lib.Dec.{eqb}
-use lib.IntN.{pos}
 use lib.ListN.{getD}
 use lib.Pow.{pow-pos}
 use borrow.Author.Tests.{eq-eqb, ne-eqb}
 use Rattle.lists.specs.Lists.{tab, num}
 use Rattle.lists.proofs.Tables.{tab-at}
-use Rattle.walsh.specs.Words.{signed, turned}
-use Rattle.walsh.proofs.Signed.{signed-zero}
+use Rattle.walsh.specs.Words.{turned}
 use Rattle.walsh.proofs.Signs.{lowest-digit, odd-zero, odd-one}
 use Rattle.lead_finder.specs.Counts.{countAt}
-use Rattle.chain.specs.Chain.{bit, keyBit, missingMark}
-use Rattle.chain.specs.Tables.{symbolOf, keysAt, placeValue}
+use Rattle.chain.specs.Chain.{bit, keyBit}
+use Rattle.chain.specs.Tables.{keysAt, placeValue}
 use Rattle.chain.proofs.Binary.{number-bit}
-use Rattle.chain.proofs.GrayCodes.{symbol-marked}
-use Rattle.tone_range.specs.Range.{HasTones}
-use Rattle.weight_range.specs.Range.{HasWeights}
-use Rattle.block_decoder.specs.Decoding.{heardSymbol, symbolsOf, countOf, countIn}
-use Rattle.block_decoder.specs.Internal.{byteSymbols, signBy, tableSign, heardWeight, heardWeights}
+use Rattle.block_decoder.specs.Decoding.{countOf, countIn}
+use Rattle.block_decoder.specs.Internal.{signBy, tableSign, AreSeen}
 
 -- the key bit of character q is bit q of the key bits
 pub keys-bit : (t q : ℕ) → q < 8 → bit (keysAt t) q ≡ keyBit q t
@@ -55,29 +50,13 @@ table-sign b symbols q t h l =
     ap₂ (λ (k : Bool) (v : ℕ). turned k (not (eqb (bitAnd (num symbols t) v) 0))) key value
     ∙ ap (turned (keyBit q t)) (value-bit (num symbols t) ((q + t) % b))
 
--- a missing tone counts 0 whatever its sign
-count-of : (k : Bool) (place weight tone : ℕ) → (tone < 256) ⊎ (tone ≡ missingMark) → weight ≤ 15
-    → signed (turned k (bit (symbolOf (tone % 256)) place)) (pos (heardWeight tone weight % 16)) ≡ countOf k place weight (heardSymbol tone)
-unfolding heardWeight heardSymbol countOf
-count-of k place weight tone (inl h) low =
-    let present : eqb tone missingMark ≡ false = ne-eqb tone missingMark (λ e. omega arith) in
-    let whole : tone % 256 ≡ tone = omega arith in
-    let few : weight % 16 ≡ weight = omega arith in
-    rw (present, whole, few, symbol-marked tone)
-count-of k place weight tone (inr e) low = rw (eq-eqb tone missingMark e) (signed-zero (turned k (bit (symbolOf (tone % 256)) place)))
-
 -- what the signs and weights count for character q, made by the tables
-pub table-count : (b q : ℕ) (keys values symbols heard tones weights : List ℕ) (signs : List Bool)
-    → keys ≡ tab keysAt 64 → values ≡ tab (placeValue b) 72 → symbols ≡ byteSymbols tones → q < 8
-    → signs ≡ tab (tableSign keys values symbols q) 64 → heard ≡ heardWeights tones weights → HasTones 256 tones → HasWeights 15 weights
-    → (t : ℕ) → t < 64 → countAt signs heard t ≡ countIn b (symbolsOf tones) weights q t
-unfolding countIn byteSymbols heardWeights symbolsOf
-table-count b q keys values symbols heard tones weights signs k v y h s w in-range weighed t l =
-    let symbol : num symbols t ≡ symbolOf (num tones t % 256) = rw y (tab-at (λ i. symbolOf (num tones i % 256)) 0 64 t l) in
-    let sign : getD signs t false ≡ turned (keyBit q t) (bit (symbolOf (num tones t % 256)) ((q + t) % b)) =
-    rw (s, k, v) (tab-at (tableSign (tab keysAt 64) (tab (placeValue b) 72) symbols q) false 64 t l ∙ table-sign b symbols q t h l)
-    ∙ ap (λ (x : ℕ). turned (keyBit q t) (bit x ((q + t) % b))) symbol in
-    let weight : num heard t ≡ heardWeight (num tones t) (num weights t) = rw w (tab-at (λ i. heardWeight (num tones i) (num weights i)) 0 64 t l) in
-    ap₂ (λ (minus : Bool) (n : ℕ). signed minus (pos (n % 16))) sign weight
-    ∙ count-of (keyBit q t) ((q + t) % b) (num weights t) (num tones t) (in-range .each t l) (weighed .each t l)
-    ∙ ap (countOf (keyBit q t) ((q + t) % b) (num weights t)) (sym (tab-at (λ i. heardSymbol (num tones i)) 0 64 t l))
+pub table-count : (b q : ℕ) (keys values symbols heard : List ℕ) (signs : List Bool)
+    → keys ≡ tab keysAt 64 → values ≡ tab (placeValue b) 72 → q < 8 → signs ≡ tab (tableSign keys values symbols q) 64 → AreSeen symbols heard
+    → (t : ℕ) → t < 64 → countAt signs heard t ≡ countIn b symbols heard q t
+unfolding countIn countOf
+table-count b q keys values symbols heard signs k v h s w t l =
+    let sign : getD signs t false ≡ turned (keyBit q t) (bit (num symbols t) ((q + t) % b)) =
+    rw (s, k, v) (tab-at (tableSign (tab keysAt 64) (tab (placeValue b) 72) symbols q) false 64 t l ∙ table-sign b symbols q t h l) in
+    let few : num heard t % 16 ≡ num heard t = omega (arith, w .weighed t l) in
+    rw (sign, few, w .seen t l)

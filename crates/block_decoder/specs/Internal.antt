@@ -1,27 +1,51 @@
--- What only private contracts need: the sign of what a symbol counts, by the tables of symbols, key bits and values of places, and the
--- weights that count; and what is found in an answer's array of eight characters.
-use mathlib.Core.Bool.{Bool, cond, not}
+-- What only private contracts need: the symbols that are seen and the weights that count, the sign of what a symbol counts by the tables of
+-- key bits and values of places, and what is found in an answer's array of eight characters.
+use mathlib.Core.Bool.{Bool, false, cond, not}
 use mathlib.Core.List.{List}
-use Prim.Native.Nat.{ℕ, _+_, _%_}
+use mathlib.Core.Path.{_≡_}
+use Prim.Native.Nat.{ℕ, _+_, _<_, _≤_}
 use lib.Bits.{bitAnd}
 use lib.Dec.{ltb, eqb}
-use lib.ListN.{getD}
-use Rattle.lists.specs.Lists.{tab, num}
+use lib.ListN.{getD, replicate}
+use Rattle.lists.specs.Lists.{tab, num, over}
 use Rattle.lists.specs.Places.{first}
 use Rattle.refusal.specs.Refused.{unclearAt}
-use Rattle.walsh.specs.Words.{turned}
+use Rattle.walsh.specs.Words.{corr, turned}
+use Rattle.decision.specs.Decision.{decision}
 use Rattle.decision.specs.declared.Character.{Character}
 use Rattle.chain.specs.Chain.{missingMark, bit}
 use Rattle.chain.specs.Tables.{symbolOf}
-use Rattle.block_decoder.specs.Decoding.{none, leadIn}
+use Rattle.block_decoder.specs.Decoding.{countIn, none, leadIn}
 use Rattle.block_decoder.specs.declared.Decoded.{Decoded}
 use Rattle.block_decoder.specs.declared.Decoded.the-variants.{Text, Refused}
 
--- ---- symbols and signs by tables
+-- ---- symbols and weights
 
--- the symbol of each tone by its lowest eight bits, for a missing one too
-unfoldable pub byteSymbols : List ℕ → List ℕ
-byteSymbols tones = tab (λ t. symbolOf (num tones t % 256)) 64
+-- the symbol of a tone, and 0 for a missing one, which has weight 0
+unfoldable pub seenSymbol : ℕ → ℕ
+seenSymbol tone = cond (eqb tone missingMark) 0 (symbolOf tone)
+
+-- 64 symbols: those of the first n tones, and 0 after them
+unfoldable pub seenTo : List ℕ → ℕ → List ℕ
+seenTo tones n = over (tab (λ t. seenSymbol (num tones t)) n) (replicate 64 0)
+
+-- a missing tone has weight 0
+unfoldable pub heardWeight : ℕ → ℕ → ℕ
+heardWeight tone weight = cond (eqb tone missingMark) 0 weight
+
+unfoldable pub heardWeights : List ℕ → List ℕ → List ℕ
+heardWeights tones weights = tab (λ t. heardWeight (num tones t) (num weights t)) 64
+
+-- no symbol is the missing mark, and no weight is above 15
+pub record AreSeen (symbols weights : List ℕ) : Type 0 where
+  pub seen : (t : ℕ) → t < 64 → eqb (num symbols t) missingMark ≡ false
+  pub weighed : (t : ℕ) → t < 64 → num weights t ≤ 15
+
+-- the decision on character q by such symbols and weights
+unfoldable pub seenCharacter : ℕ → List ℕ → List ℕ → ℕ → Character
+seenCharacter b symbols weights q = decision (corr (countIn b symbols weights q))
+
+-- ---- signs by tables
 
 -- the sign of what a symbol counts for a character whose bit has this value in it, after XOR with a key bit
 unfoldable pub signBy : Bool → ℕ → ℕ → Bool
@@ -30,15 +54,6 @@ signBy k value symbol = turned k (not (eqb (bitAnd symbol value) 0))
 -- of symbol t for character q
 unfoldable pub tableSign : List ℕ → List ℕ → List ℕ → ℕ → ℕ → Bool
 tableSign keys values symbols q t = signBy (bit (num keys t) q) (num values (q + t)) (num symbols t)
-
--- ---- weights
-
--- a missing tone has weight 0
-unfoldable pub heardWeight : ℕ → ℕ → ℕ
-heardWeight tone weight = cond (eqb tone missingMark) 0 weight
-
-unfoldable pub heardWeights : List ℕ → List ℕ → List ℕ
-heardWeights tones weights = tab (λ t. heardWeight (num tones t) (num weights t)) 64
 
 -- ---- the first n characters of eight
 

@@ -7,28 +7,56 @@ use chain::scrambler;
 use decision::Character;
 ghost use mathlib.Core.Path.{_≡_};
 ghost use mathlib.Core.Bool.{true};
-ghost use Prim.Native.Nat.{_≤_};
+ghost use Prim.Native.Nat.{_+_, _≤_};
 ghost use lib.ListN.{length};
 ghost use Rattle.lists.specs.Lists.{tab, over};
+ghost use Rattle.lists.specs.Places.{scan};
 ghost use Rattle.refusal.specs.Checks.{isMode};
-ghost use Rattle.tone_range.specs.Range.{HasTones};
-ghost use Rattle.weight_range.specs.Range.{HasWeights};
-ghost use Rattle.block_decoder.specs.Decoding.{weightedOf, padded};
-ghost use Rattle.block_decoder.specs.Internal.{byteSymbols, heardWeight, heardWeights, codeIn, firstUnclearIn};
+ghost use Rattle.chain.specs.Tables.{symbolOf};
+ghost use Rattle.tone_range.specs.Range.{badTone, firstBadTone};
+ghost use Rattle.block_decoder.specs.Decoding.{padded};
+ghost use Rattle.block_decoder.specs.Internal.{seenTo, heardWeight, heardWeights, AreSeen, seenCharacter, codeIn, firstUnclearIn};
 
-// The symbols of the tones, each by its lowest eight bits; what stands for a missing one has no weight.
-fn heard_symbols(tones: &[u16]) -> [u8; 64]
-    requires { ⌜ length (now tones) ≡ 64 ⌝ }
-    ensures { λ r. ⌜ r ≡ byteSymbols (now (tones .entry)) ⌝ }
+// Looks at 16 tones, one after the other, up to the first bad one, and puts down the symbol of each, 0 for a missing one. The place of the bad
+// tone, else that after the row. Both arms write, and the mark is looked for in the rare one alone: that takes the fewest instructions.
+fn look_row(limit: u16, table: &[u8; 256], from: usize, tones: &[u16], symbols: &mut [u8]) -> usize
+    requires { ⌜ (limit ≤ 256) × (now table ≡ tab symbolOf 256) × (from + 16 ≤ 64) × (length (now tones) ≡ 64) × (now symbols ≡ seenTo (now tones) from) ⌝ }
+    ensures place { λ r. ⌜ r ≡ scan (badTone limit (now (tones .entry))) from 16 ⌝ }
+    ensures symbols { λ r. ⌜ now (symbols .exit) ≡ seenTo (now (tones .entry)) r ⌝ }
 {
-    let symbols = gray::symbols();
-    let mut heard = [0u8; 64];
-    let mut t: usize = 0;
-    while t < 64 {
-        heard[t] = symbols[(tones[t] % 256) as usize];
+    let end = from + 16;
+    let mut t = from;
+    while t < end {
+        let tone = tones[t];
+        if tone < limit {
+            symbols[t] = table[tone as usize];
+        } else {
+            if tone != MISSING {
+                return t;
+            }
+            symbols[t] = 0;
+        }
         t += 1;
     }
-    heard
+    t
+}
+
+// The range check of a block and its symbols, in one pass: the place of the first bad tone, else 64. Rows of 16 become straight code.
+pub fn look(limit: u16, tones: &[u16], symbols: &mut [u8]) -> usize
+    requires { ⌜ (limit ≤ 256) × (length (now tones) ≡ 64) × (now symbols ≡ seenTo (now tones) 0) ⌝ }
+    ensures place { λ r. ⌜ r ≡ firstBadTone limit (now (tones .entry)) ⌝ }
+    ensures symbols { λ r. ⌜ now (symbols .exit) ≡ seenTo (now (tones .entry)) r ⌝ }
+{
+    let table = gray::symbols();
+    let mut t: usize = 0;
+    while t < 64 {
+        let end = t + 16;
+        t = look_row(limit, &table, t, tones, symbols);
+        if t < end {
+            return t;
+        }
+    }
+    t
 }
 
 fn heard_weight(tone: u16, weight: u8) -> u8
@@ -38,7 +66,7 @@ fn heard_weight(tone: u16, weight: u8) -> u8
 }
 
 // The weights that count: a missing tone has none, whatever was sent.
-fn heard_weights(tones: &[u16], weights: &[u8]) -> [u8; 64]
+pub fn heard_weights(tones: &[u16], weights: &[u8]) -> [u8; 64]
     requires { ⌜ (length (now tones) ≡ 64) × (length (now weights) ≡ 64) ⌝ }
     ensures { λ r. ⌜ r ≡ heardWeights (now (tones .entry)) (now (weights .entry)) ⌝ }
 {
@@ -51,23 +79,18 @@ fn heard_weights(tones: &[u16], weights: &[u8]) -> [u8; 64]
     heard
 }
 
-// The decisions on the characters of a block, in an array of eight.
-pub fn characters(mode: u32, tones: &[u16], weights: &[u8]) -> [Character; 8]
-    requires { ⌜ (isMode mode ≡ true) × HasTones 256 (now tones) × HasWeights 15 (now weights) ⌝ }
-    ensures { λ r. ⌜ r ≡ padded (weightedOf mode (now (tones .entry)) (now (weights .entry))) ⌝ }
+// The decisions on the characters of a block, by its symbols and the weights that count, in an array of eight.
+pub fn characters(mode: u32, symbols: &[u8; 64], heard: &[u8; 64]) -> [Character; 8]
+    requires { ⌜ (isMode mode ≡ true) × AreSeen (now symbols) (now heard) ⌝ }
+    ensures { λ r. ⌜ r ≡ padded (tab (seenCharacter mode (now (symbols .entry)) (now (heard .entry))) mode) ⌝ }
 {
-    let symbols = heard_symbols(tones);
-    let heard = heard_weights(tones, weights);
     let keys = scrambler::keys();
     let values = chain::interleaver::values(mode);
     let b = mode as usize;
     let mut characters = [NONE; 8];
     let mut q: usize = 0;
     while q < b {
-        characters[q] = lead_finder::decide(
-            interleaver::signs(q, &keys, &values, &symbols),
-            &heard,
-        );
+        characters[q] = lead_finder::decide(interleaver::signs(q, &keys, &values, symbols), heard);
         q += 1;
     }
     characters

@@ -3,9 +3,9 @@ use decision::Character;
 use refusal::Refusal;
 use refusal::checks;
 ghost use mathlib.Core.Path.{_≡_};
-ghost use Prim.Native.Nat.{_≤_};
+ghost use Prim.Native.Nat.{ℕ, _≤_};
 ghost use lib.ListN.{length};
-ghost use Rattle.block_decoder.specs.Decoding.{refused, heardBlock, decodeBlock, decodeWeighted, heardBlockInto, decodedInto, weightedInto};
+ghost use Rattle.block_decoder.specs.Decoding.{weightedOf, codesOf, refused, heardBlock, decodeBlock, decodeWeighted, heardInto, decodedInto, weightedInto};
 ghost use Rattle.block_decoder.specs.Internal.{judgementIn};
 
 mod decode;
@@ -45,7 +45,8 @@ pub fn decode_block(mode: u32, least_lead: u32, tones: &[u16], codes: &mut [u8])
     ensures output { λ _. ⌜ now (codes .exit) ≡ decodedInto mode «least_lead» (now (tones .entry)) (now (codes .entry)) ⌝ }
 {
     let weights = [PLAIN_WEIGHT; 64];
-    hear(PLAIN_WEIGHT, mode, least_lead, tones, &weights, codes)
+    let room = codes.len();
+    hear(PLAIN_WEIGHT, mode, least_lead, tones, &weights, room, codes)
 }
 
 // Decodes 64 tones with a weight from 0 to 15 for each; the set lead is 1 to 960.
@@ -59,7 +60,16 @@ pub fn decode_weighted(
     ensures answer { λ r. ⌜ r ≡ decodeWeighted mode «least_lead» (now (tones .entry)) (now (weights .entry)) (length (now (codes .entry))) ⌝ }
     ensures output { λ _. ⌜ now (codes .exit) ≡ weightedInto mode «least_lead» (now (tones .entry)) (now (weights .entry)) (now (codes .entry)) ⌝ }
 {
-    hear(GREATEST_WEIGHT, mode, least_lead, tones, weights, codes)
+    let room = codes.len();
+    hear(
+        GREATEST_WEIGHT,
+        mode,
+        least_lead,
+        tones,
+        weights,
+        room,
+        codes,
+    )
 }
 
 // What decoding answers for an output of room codes; nothing is written.
@@ -67,44 +77,31 @@ pub fn decide_block(mode: u32, least_lead: u32, tones: &[u16], room: usize) -> B
     ensures { λ r. ⌜ r ≡ decodeBlock mode «least_lead» (now (tones .entry)) room ⌝ }
 {
     let weights = [PLAIN_WEIGHT; 64];
-    decide(PLAIN_WEIGHT, mode, least_lead, tones, &weights, room)
+    let mut codes = [0u8; 8];
+    hear(
+        PLAIN_WEIGHT,
+        mode,
+        least_lead,
+        tones,
+        &weights,
+        room,
+        &mut codes,
+    )
 }
 
-// Decodes with weights from 0 to greatest.
+// The answer for an output of room codes, where weights are 0 to greatest. A text goes to the front of codes.
 fn hear(
     greatest: u8,
     mode: u32,
     least_lead: u32,
     tones: &[u16],
     weights: &[u8],
+    room: usize,
     codes: &mut [u8],
 ) -> BlockDecoded
-    requires { ⌜ greatest ≤ 15 ⌝ }
-    ensures answer { λ r. ⌜ r ≡ heardBlock greatest mode «least_lead» (now (tones .entry)) (now (weights .entry)) (length (now (codes .entry))) ⌝ }
-    ensures output { λ _. ⌜ now (codes .exit) ≡ heardBlockInto greatest mode «least_lead» (now (tones .entry)) (now (weights .entry)) (now (codes .entry)) ⌝ }
-{
-    let decoded = decide(greatest, mode, least_lead, tones, weights, codes.len());
-    let answer = decoded.answer;
-    match answer {
-        Decoded::Text(count) => {
-            let characters = decoded.characters;
-            decode::put_codes(count, characters, codes);
-            decoded
-        }
-        Decoded::Refused(_) => decoded,
-    }
-}
-
-fn decide(
-    greatest: u8,
-    mode: u32,
-    least_lead: u32,
-    tones: &[u16],
-    weights: &[u8],
-    room: usize,
-) -> BlockDecoded
-    requires { ⌜ greatest ≤ 15 ⌝ }
-    ensures { λ r. ⌜ r ≡ heardBlock greatest mode «least_lead» (now (tones .entry)) (now (weights .entry)) room ⌝ }
+    requires { ⌜ (greatest ≤ 15) × ((n : ℕ) → n ≤ 8 → n ≤ room → n ≤ length (now codes)) ⌝ }
+    ensures answer { λ r. ⌜ r ≡ heardBlock greatest mode «least_lead» (now (tones .entry)) (now (weights .entry)) room ⌝ }
+    ensures output { λ _. ⌜ now (codes .exit) ≡ heardInto (heardBlock greatest mode «least_lead» (now (tones .entry)) (now (weights .entry)) room .answer) (codesOf (weightedOf mode (now (tones .entry)) (now (weights .entry)))) (now (codes .entry)) ⌝ }
 {
     if !checks::is_mode(mode) {
         return refused(refusal::MODE, 0);
@@ -122,7 +119,8 @@ fn decide(
     if room < b {
         return refused(refusal::ROOM, 0);
     }
-    let bad = tone_range::first_bad_tone(checks::tone_count(mode), tones);
+    let mut symbols = [0u8; 64];
+    let bad = decode::look(checks::tone_count(mode), tones, &mut symbols);
     if bad < 64 {
         return refused(refusal::TONE, bad);
     }
@@ -130,8 +128,13 @@ fn decide(
     if bad_weight < 64 {
         return refused(refusal::WEIGHT, bad_weight);
     }
-    let characters = decode::characters(mode, tones, weights);
+    let heard = decode::heard_weights(tones, weights);
+    let characters = decode::characters(mode, &symbols, &heard);
     let answer = judge(b, least_lead, characters);
+    match answer {
+        Decoded::Text(count) => decode::put_codes(count, characters, codes),
+        Decoded::Refused(_) => {}
+    }
     BlockDecoded { answer, characters }
 }
 

@@ -3,7 +3,7 @@ use mathlib.Core.Path.{_≡_, refl, sym, _∙_}
 use mathlib.Core.Bool.{Bool, true, false, cond, _||_}
 use Prim.Native.Nat.{ℕ, zero, suc, _+_, _-_, _<_, _≤_}
 use native.Mathlib.Decide.{ℕ-discrete, decLt}
-use native.Mathlib.Nat.{sub-zero}
+use native.Mathlib.Nat.{add-zero, sub-zero}
 use native.Mathlib.Numerals.{add-one}
 use native.Mathlib.Omega.{arith}
 use lib.Dec.{ltb}
@@ -32,6 +32,33 @@ pub scan-end : (p : ℕ → Bool) (i n : ℕ) → n ≤ i → scan p i (n - i) �
 unfolding scan
 scan-end p i n h = let e : n - i ≡ 0 = omega arith in rw e
 
+-- ---- a loop that looks at n of m places at once
+
+pub scan-within : (p : ℕ → Bool) (i n m : ℕ) → n ≤ m → scan p i n < i + n → scan p i m ≡ scan p i n
+unfolding scan
+scan-within p i zero m l h = absurd (omega arith)
+scan-within p i (suc n) zero l h = absurd (omega arith)
+scan-within p i (suc n) (suc m) l h = by (p i) h (λ g. scan-within p (suc i) n m (omega arith) (omega arith))
+  where
+    by : (b : Bool) → cond b i (scan p (suc i) n) < i + suc n → (scan p (suc i) n < i + suc n → scan p (suc i) m ≡ scan p (suc i) n)
+        → cond b i (scan p (suc i) m) ≡ cond b i (scan p (suc i) n)
+    by true g r = refl
+    by false g r = r g
+
+pub scan-beyond : (p : ℕ → Bool) (i n m : ℕ) → n ≤ m → i + n ≤ scan p i n → scan p (i + n) (m - n) ≡ scan p i m
+unfolding scan
+scan-beyond p i zero m l h = rw (add-zero i, sub-zero m)
+scan-beyond p i (suc n) zero l h = absurd (omega arith)
+scan-beyond p i (suc n) (suc m) l h =
+    let place : i + suc n ≡ suc i + n = omega arith in
+    let left : suc m - suc n ≡ m - n = omega arith in
+    rw (place, left) (by (p i) h (λ g. scan-beyond p (suc i) n m (omega arith) (omega arith)))
+  where
+    by : (b : Bool) → i + suc n ≤ cond b i (scan p (suc i) n) → (i + suc n ≤ scan p (suc i) n → scan p (suc i + n) (m - n) ≡ scan p (suc i) m)
+        → scan p (suc i + n) (m - n) ≡ cond b i (scan p (suc i) m)
+    by true g r = absurd (omega arith)
+    by false g r = r g
+
 -- ---- what is known of the first place
 
 -- s is the first place with p among the n from i on
@@ -58,6 +85,9 @@ scan-from p i (suc n) = by (p i) refl (scan-from p (suc i) n)
         at : (k : ℕ) → i ≤ k → k < scan p (suc i) n → Dec (k ≡ i) → p k ≡ false
         at k l h (yes q) = rw q e
         at k l h (no ne) = f .before k (omega arith) h
+
+pub scan-most : (p : ℕ → Bool) (i n : ℕ) → scan p i n ≤ i + n
+scan-most p i n = scan-from p i n .high
 
 pub first-is : (p : ℕ → Bool) (n : ℕ) → IsFirst p n (first p n)
 first-is p n =

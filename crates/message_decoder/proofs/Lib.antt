@@ -2,3 +2,4 @@ pub mod ToneRanges
 pub mod DecodeCases
 pub mod HeardBlocks
 pub mod Hearing
+pub mod Refusals

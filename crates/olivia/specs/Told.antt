@@ -1,10 +1,14 @@
 -- What C is told of each answer (include/olivia.h).
+use mathlib.Core.Bool.{cond, not}
 use mathlib.Core.List.{List}
-use Prim.Native.Nat.{ℕ}
-use lib.ListN.{getD}
+use Prim.Native.Nat.{ℕ, _^_}
+use lib.Dec.{ltb}
+use lib.ListN.{length, getD}
 use Rattle.lists.specs.Lists.{tab}
 use Rattle.refusal.specs.declared.Refusal.{Refusal}
+use Rattle.refusal.specs.Checks.{isMode}
 use Rattle.decision.specs.declared.Character.{Character}
+use Rattle.tone_range.specs.Range.{firstBadTone, lookedAt}
 use Rattle.block_encoder.specs.declared.Encoded.{Encoded}
 use Rattle.block_encoder.specs.declared.Encoded.the-variants as encoded
 use Rattle.block_decoder.specs.Decoding.{none}
@@ -20,6 +24,7 @@ use Rattle.band.specs.declared.Tuned.the-variants as tuned
 use Rattle.olivia.specs.declared.Answer.{Answer}
 use Rattle.olivia.specs.declared.CharacterAnswer.{CharacterAnswer}
 use Rattle.olivia.specs.declared.BlockAnswer.{BlockAnswer}
+use Rattle.olivia.specs.declared.LookedAnswer.{LookedAnswer}
 use Rattle.olivia.specs.declared.HertzAnswer.{HertzAnswer}
 use Rattle.olivia.specs.declared.TrialAnswers.{TrialAnswers}
 use Rattle.olivia.specs.declared.WeightedTrialAnswers.{WeightedTrialAnswers}
@@ -55,6 +60,16 @@ charactersTold characters = tab (λ q. characterTold (getD characters q none)) 8
 
 unfoldable pub blockTold : BlockDecoded → BlockAnswer
 blockTold d = record { answer = decodedTold (d .answer); characters = charactersTold (d .characters) }
+
+abbrev pub lookedAnswer : ℕ → ℕ → ℕ → LookedAnswer
+lookedAnswer number place looked = record { number = number; place = place; looked = looked }
+
+-- the range check by itself: 1, with nothing looked at, then 8 with the place of the first bad tone; how many tones were looked at beside it
+unfoldable pub lookedTold : ℕ → List ℕ → LookedAnswer
+lookedTold b tones =
+    cond (not (isMode b)) (lookedAnswer 1 0 0)
+    (cond (ltb (firstBadTone (2 ^ b) tones) (length tones)) (lookedAnswer 8 (firstBadTone (2 ^ b) tones) (lookedAt (2 ^ b) tones))
+    (lookedAnswer 0 0 (lookedAt (2 ^ b) tones)))
 
 -- a refusal has no frequency: 0 stands there
 abbrev pub hertzTold : Tuned → HertzAnswer

@@ -5,6 +5,7 @@ use block_decoder::NONE;
 use block_encoder::Encoded;
 use decision::Character;
 use refusal::Refusal;
+use refusal::checks;
 ghost use mathlib.Core.Path.{_≡_};
 ghost use Prim.Native.Nat.{_<_, _^_};
 ghost use lib.ListN.{length};
@@ -15,7 +16,7 @@ ghost use Rattle.message_encoder.specs.Blocks.{longest};
 ghost use Rattle.message_encoder.specs.Encoding.{encodeMessage, messageEncodedInto};
 ghost use Rattle.message_decoder.specs.Decoding.{decodeMessage, messageDecodedInto};
 ghost use Rattle.band.specs.Frequencies.{frequencyOf};
-ghost use Rattle.olivia.specs.Told.{acceptedTold, refusalTold, encodedTold, decodedTold, characterTold, charactersTold, blockTold, hertzTold};
+ghost use Rattle.olivia.specs.Told.{acceptedTold, refusalTold, encodedTold, decodedTold, characterTold, charactersTold, blockTold, lookedAnswer, lookedTold, hertzTold};
 ghost use Rattle.olivia.specs.Tried.{TriedForC};
 ghost use Rattle.olivia.specs.WeightedTried.{WeightedTriedForC};
 ghost use Rattle.olivia.specs.Internal.{carriedBy, heardCarries};
@@ -45,6 +46,14 @@ pub struct CharacterAnswer {
 pub struct BlockAnswer {
     pub answer: Answer,
     pub characters: [CharacterAnswer; 8],
+}
+
+// number 0: no tone is bad, and place is 0. Else the refusal. looked is how many tones were looked at.
+#[repr(C)]
+pub struct LookedAnswer {
+    pub number: u32,
+    pub place: u64,
+    pub looked: u64,
 }
 
 // number 0: the frequency. Else the refusal, and hertz is 0.
@@ -107,6 +116,20 @@ pub extern "C" fn olivia_decode_weighted(
     ensures output { λ _. ⌜ now (codes .exit) ≡ weightedInto mode «least_lead» (now (tones .entry)) (now (weights .entry)) (now (codes .entry)) ⌝ }
 {
     told_block(block_decoder::decode_weighted(mode, least_lead, tones, weights, codes))
+}
+
+#[no_mangle]
+pub extern "C" fn olivia_check_tones(mode: u32, tones: &[u16]) -> LookedAnswer
+    ensures { λ r. ⌜ r ≡ lookedTold mode (now (tones .entry)) ⌝ }
+{
+    if !checks::is_mode(mode) {
+        return looked(refusal::MODE, 0, 0);
+    }
+    let range = tone_range::check(checks::tone_count(mode), tones);
+    if range.bad < tones.len() {
+        return looked(refusal::TONE, range.bad, range.looked);
+    }
+    looked(0, 0, range.looked)
 }
 
 #[no_mangle]
@@ -205,6 +228,16 @@ pub extern "C" fn olivia_weighted_trial_run(
         first: told_decoded(one_answer),
         second: told_decoded(two_answer),
         damage: trial.damage,
+    }
+}
+
+fn looked(number: u8, place: usize, count: usize) -> LookedAnswer
+    ensures { λ r. ⌜ r ≡ lookedAnswer number place count ⌝ }
+{
+    LookedAnswer {
+        number: number as u32,
+        place: place as u64,
+        looked: count as u64,
     }
 }
 

@@ -22,9 +22,10 @@ pub fn is_lead_at(greatest: u8, least_lead: u32) -> bool
     1 <= least_lead && least_lead <= 64 * (greatest as u32)
 }
 
-// The count of a mode's tones, 2^mode. A number of 16 or more goes by its lowest four bits.
+// The count of a mode's tones, 2^mode. A number of 16 or more goes by its lowest four bits. To the right, since of a comparison with what is
+// shifted to the left the compiler makes a shift in every turn of a loop.
 pub fn tone_count(mode: u32) -> u16
     ensures { λ r. ⌜ r ≡ 2 ^ (mode % 16) ⌝ }
 {
-    1u16 << (mode % 16)
+    32768u16 >> (15 - mode % 16)
 }

@@ -2,20 +2,22 @@
 use mathlib.Core.Path.{_≡_, refl}
 use mathlib.Core.Bool.{Bool, true, false, not, _&&_}
 use mathlib.Core.List.{List}
-use mathlib.Core.Logic.{_⊎_, inl, inr, ⊎-elim}
+use mathlib.Core.Logic.{_⊎_, inl, inr}
 use Prim.Native.Nat.{ℕ, _<_, _≤_, _^_}
-use native.Mathlib.Nat.{lt-of-lt-of-le}
 use native.Mathlib.Omega.{arith}
-use borrow.Author.Tests.{leb-false, eqb-true, lt-leb, eq-eqb}
+use borrow.Author.Tests.{leb-false, eqb-true, lt-leb, le-leb, eq-eqb, ne-eqb}
 use lib.Dec.{leb, eqb}
 use lib.ListN.{length}
-use lib.Pow.{pow-mono}
 use Rattle.lists.specs.Lists.{num}
 use Rattle.lists.proofs.Places.{first-is, first-none}
 use Rattle.chain.specs.Chain.{missingMark}
 use Rattle.tone_range.specs.Range.{HasTones, badTone, firstBadTone}
 
 module _ (limit : ℕ) (tones : List ℕ) where
+  pub tones-most : firstBadTone limit tones ≤ length tones
+  unfolding firstBadTone
+  tones-most = first-is (badTone limit tones) (length tones) .within
+
   pub tones-good : length tones ≤ firstBadTone limit tones → (t : ℕ) → t < length tones → badTone limit tones t ≡ false
   unfolding firstBadTone
   tones-good h t l = first-is (badTone limit tones) (length tones) .lowest t (omega arith)
@@ -33,6 +35,9 @@ good-tone limit n (inr e) = rw (eq-eqb n missingMark e) (and-false-right (leb li
     and-false-right : (s : Bool) → s && false ≡ false
     and-false-right true = refl
     and-false-right false = refl
+
+pub bad-tone : (limit n : ℕ) → limit ≤ n → (n ≡ missingMark → ⊥) → leb limit n && not (eqb n missingMark) ≡ true
+bad-tone limit n h e = rw (le-leb limit n h, ne-eqb n missingMark e)
 
 tone-good : (limit n : ℕ) → leb limit n && not (eqb n missingMark) ≡ false → (n < limit) ⊎ (n ≡ missingMark)
 tone-good limit n e = by (leb limit n) refl (eqb n missingMark) refl e
@@ -52,10 +57,3 @@ module _ (b : ℕ) (tones : List ℕ) where
     count = n;
     each = λ t l. tone-good (2 ^ b) (num tones t) (tones-good (2 ^ b) tones (omega arith) t (omega arith));
   }
-
--- tones of a mode are below 256
-pub byte-tones : (b : ℕ) (tones : List ℕ) → b ≤ 8 → HasTones (2 ^ b) tones → HasTones 256 tones
-byte-tones b tones h w = record {
-  count = w .count;
-  each = λ t l. ⊎-elim (λ g. inl (lt-of-lt-of-le g (pow-mono {i = b} {j = 8} h))) (λ e. inr e) (w .each t l);
-}

@@ -1,1 +1,2 @@
 pub mod Range
+pub mod Laws

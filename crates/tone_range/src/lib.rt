@@ -1,45 +1,37 @@
-// The range check of tones: the first that is neither one of the mode's nor missing. Document 01, refusal 8.
-use chain::MISSING;
+// The range check of tones: document 01, refusal 8, and document 02, order 2.
 ghost use mathlib.Core.Path.{_≡_};
 ghost use mathlib.Core.Bool.{not, _&&_};
-ghost use lib.Dec.{ltb, leb, eqb};
-ghost use lib.ListN.{length};
+ghost use lib.Dec.{leb, eqb};
 ghost use Rattle.chain.specs.Chain.{missingMark};
-ghost use Rattle.tone_range.specs.Range.{firstBadTone};
+ghost use Rattle.tone_range.specs.Range.{rangeOf};
 
-// The lowest place of a tone that is neither below limit nor missing, else the count of tones.
-pub fn first_bad_tone(limit: u16, tones: &[u16]) -> usize
-    ensures { λ r. ⌜ r ≡ firstBadTone limit (now (tones .entry)) ⌝ }
+pub mod laws;
+
+// The lowest place of a bad tone, else the count of tones; and how many tones were looked at.
+pub struct Looked {
+    pub bad: usize,
+    pub looked: usize,
+}
+
+// Looks at one tone after the other, up to the first that is neither below limit nor missing.
+pub fn check(limit: u16, tones: &[u16]) -> Looked
+    ensures { λ r. ⌜ r ≡ rangeOf limit (now (tones .entry)) ⌝ }
 {
-    if !has_bad_tone(limit, tones) {
-        return tones.len();
-    }
+    let mut looked: usize = 0;
     let mut t: usize = 0;
     while t < tones.len() {
+        looked += 1;
         if is_bad_tone(limit, tones[t]) {
-            return t;
+            return Looked { bad: t, looked };
         }
         t += 1;
     }
-    t
+    Looked { bad: t, looked }
 }
 
-// Whether there is such a tone. Tones without one are common: this loop looks at all, so the compiler makes vector code of it.
-fn has_bad_tone(limit: u16, tones: &[u16]) -> bool
-    ensures { λ r. ⌜ r ≡ ltb (firstBadTone limit (now (tones .entry))) (length (now (tones .entry))) ⌝ }
-{
-    let mut found = false;
-    let mut t: usize = 0;
-    while t < tones.len() {
-        let bad = is_bad_tone(limit, tones[t]);
-        found = found | bad;
-        t += 1;
-    }
-    found
-}
-
+// One comparison tells both: the mark of a missing tone is the greatest u16, so that one more goes round to 0.
 fn is_bad_tone(limit: u16, tone: u16) -> bool
     ensures { λ r. ⌜ r ≡ leb limit tone && not (eqb tone missingMark) ⌝ }
 {
-    limit <= tone && tone != MISSING
+    limit < std::num::wrapping_add_u16(tone, 1)
 }
