@@ -1,10 +1,10 @@
 /* The Olivia text link for C and C++: from characters to tones and back. Link libolivia.a.
  *
  * A mode b is 1 to 8: a symbol has b bits, a block b characters, and a tone is below 2^b. A block is 64 tones.
- * Tone 65535 marks a missing one, and may stand only in tones to be decoded. A code is one byte, 0 to 127. A
- * message is 0 to 1,024 codes from 1 to 127. The set lead, least_lead, is 1 to 64: what a character's lead has
- * to reach to be clear. A weight says how sure a tone is, from 0 to 15; where weights are passed the set lead is
- * 1 to 960.
+ * Tone 65535 marks a missing one, and may stand only in tones to be decoded or checked. A code is one byte, 0 to
+ * 127. A message is 0 to 1,024 codes from 1 to 127. The set lead, least_lead, is 1 to 64: what a character's lead
+ * has to reach to be clear. A weight says how sure a tone is, from 0 to 15; where weights are passed the set lead
+ * is 1 to 960.
  *
  * What a caller owes. A pointer with a count n is to n elements that may be read, and a pointer with a room is
  * to as many elements that may be read and written. Each is aligned for its type. With 0 elements it is not
@@ -74,6 +74,14 @@ typedef struct {
     olivia_character characters[8];
 } olivia_block;
 
+/* number 0: place is 0. Else the refusal's number and place. looked is how many tones were looked at, refused or
+ * not. */
+typedef struct {
+    uint32_t number;
+    uint64_t place;
+    uint64_t looked;
+} olivia_looked;
+
 /* number 0: place is 0, and hertz is the frequency. Else the refusal's number and place, and hertz is 0. */
 typedef struct {
     uint32_t number;
@@ -123,6 +131,12 @@ olivia_answer olivia_encode_message(uint32_t mode, const uint8_t *text, size_t n
  * written. */
 olivia_answer olivia_decode_message(uint32_t mode, uint32_t least_lead, const uint16_t *tones, size_t n,
                                     uint8_t *text, size_t room);
+
+/* Check 8 of decoding by itself, on any number n of tones, which are only read. It looks at one after the other,
+ * and stops at the first bad one, which is neither below 2^b nor a missing mark. Checks 1, 8. looked is n if no
+ * tone is bad, the place plus one with refusal 8, and 0 with refusal 1, where no tone is looked at. 0 tones are
+ * accepted. */
+olivia_looked olivia_check_tones(uint32_t mode, const uint16_t *tones, size_t n);
 
 /* The frequency of a tone in Hz, exactly: centre - width / 2 + spacing / 2 + spacing * tone, where spacing is
  * width / 2^b. Checks 1, 3, 4, 8; the missing mark is no tone here. */

@@ -15,6 +15,8 @@ static_assert(offsetof(olivia_character, code) == 0 && offsetof(olivia_character
                   sizeof(olivia_character) == 24,
               "six numbers of 32 bits");
 static_assert(offsetof(olivia_block, characters) == 16 && sizeof(olivia_block) == 208, "an answer and eight records");
+static_assert(offsetof(olivia_looked, place) == 8 && offsetof(olivia_looked, looked) == 16 && sizeof(olivia_looked) == 24,
+              "a number of 32 bits and two of 64");
 static_assert(offsetof(olivia_hertz, hertz) == 8 && sizeof(olivia_hertz) == 16, "two numbers and a double");
 static_assert(offsetof(olivia_trial, replaced) == 48 && sizeof(olivia_trial) == 56, "three answers and two numbers");
 static_assert(offsetof(olivia_weighted_trial, damage) == 48 && sizeof(olivia_weighted_trial) == 52,
@@ -90,6 +92,24 @@ static void messages(void)
     check("code 0 in a message", is(olivia_encode_message(3, with_zero, 3, tones, 2 * TONES), 6, 1, 0, 0));
     check("an output too short", is(olivia_decode_message(3, 64, tones, 2 * TONES, heard, 5), 9, 0, 0, 0));
     check("an empty message", is(olivia_encode_message(3, NULL, 0, NULL, 0), 0, 0, 0, 0));
+}
+
+static int looked(olivia_looked answer, uint32_t number, uint64_t place, uint64_t count)
+{
+    return answer.number == number && answer.place == place && answer.looked == count;
+}
+
+static void range_checks(void)
+{
+    uint16_t tones[TONES] = {0, 255, MISSING};
+
+    check("64 good tones", looked(olivia_check_tones(8, tones, TONES), 0, 0, TONES));
+    tones[40] = 256;
+    tones[50] = 65534;
+    check("tone 256 at mode 8", looked(olivia_check_tones(8, tones, TONES), 8, 40, 41));
+    check("the tones before it", looked(olivia_check_tones(8, tones, 40), 0, 0, 40));
+    check("a check at mode 9", looked(olivia_check_tones(9, tones, TONES), 1, 0, 0));
+    check("a check of 0 tones", looked(olivia_check_tones(8, tones + 40, 0), 0, 0, 0));
 }
 
 static void frequencies(void)
@@ -191,6 +211,7 @@ int main(void)
 {
     blocks();
     messages();
+    range_checks();
     frequencies();
     trials();
     weights();

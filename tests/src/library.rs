@@ -29,6 +29,15 @@ pub struct Block {
     pub characters: [Character; 8],
 }
 
+/// Number 0: no tone is bad. `looked` is how many tones were looked at.
+#[repr(C)]
+#[derive(Clone, Copy, Debug, Default, PartialEq, Eq)]
+pub struct Looked {
+    pub number: u32,
+    pub place: u64,
+    pub looked: u64,
+}
+
 #[repr(C)]
 #[derive(Clone, Copy, Debug, Default, PartialEq)]
 pub struct Hertz {
@@ -57,7 +66,7 @@ pub struct WeightedTrial {
 }
 
 mod c {
-    use super::{Answer, Block, Hertz, Trial, WeightedTrial};
+    use super::{Answer, Block, Hertz, Looked, Trial, WeightedTrial};
 
     extern "C" {
         pub fn olivia_encode_block(
@@ -90,6 +99,7 @@ mod c {
             text: *mut u8,
             room: usize,
         ) -> Answer;
+        pub fn olivia_check_tones(mode: u32, tones: *const u16, n: usize) -> Looked;
         pub fn olivia_frequency(mode: u32, width: u32, centre: u32, tone: u16) -> Hertz;
         pub fn olivia_trial_run(
             mode: u32,
@@ -171,6 +181,10 @@ pub fn encode_message(mode: u32, text: &[u8], tones: &mut [u16]) -> Answer {
 pub fn decode_message(mode: u32, least_lead: u32, tones: &[u16], text: &mut [u8]) -> Answer {
     let (to, room) = (start_mut(text), text.len());
     unsafe { c::olivia_decode_message(mode, least_lead, start(tones), tones.len(), to, room) }
+}
+
+pub fn check_tones(mode: u32, tones: &[u16]) -> Looked {
+    unsafe { c::olivia_check_tones(mode, start(tones), tones.len()) }
 }
 
 pub fn frequency(mode: u32, width: u32, centre: u32, tone: u16) -> Hertz {

@@ -1,4 +1,5 @@
-//! Calls the library so many times on one input, for a tool that counts instructions: `count encode|decode|weighted|message MODE TIMES`.
+//! Calls the library so many times on one input, for a tool that counts instructions: `count WORK MODE TIMES`, where WORK is
+//! `encode`, `decode`, `weighted`, `message`, `bad-first`, `bad-last`, `check` or `check-long`.
 
 use olivia_tests::library;
 use std::hint::black_box;
@@ -6,6 +7,10 @@ use std::process::ExitCode;
 
 const LEAST_LEAD: u32 = 16;
 const LONGEST_MESSAGE: usize = 1024;
+
+/// Tones that are checked by themselves: a block's, and the most that the board delivers with the start unknown.
+const SHORT_RUN: usize = 64;
+const LONG_RUN: usize = 4096;
 
 fn main() -> ExitCode {
     let words: Vec<String> = std::env::args().skip(1).collect();
@@ -18,13 +23,25 @@ fn main() -> ExitCode {
         "decode" => decode(mode, times),
         "weighted" => weighted(mode, times),
         "message" => message(mode, times),
+        work => return look(work, mode, times),
+    }
+    ExitCode::SUCCESS
+}
+
+/// The works that look at tones and decode none.
+fn look(work: &str, mode: u32, times: u32) -> ExitCode {
+    match work {
+        "bad-first" => refused(mode, times, |_| 0),
+        "bad-last" => refused(mode, times, |count| count - 1),
+        "check" => check(mode, times, SHORT_RUN),
+        "check-long" => check(mode, times, LONG_RUN),
         _ => return usage(),
     }
     ExitCode::SUCCESS
 }
 
 fn usage() -> ExitCode {
-    eprintln!("usage: count encode|decode|weighted|message MODE TIMES");
+    eprintln!("usage: count encode|decode|weighted|message|bad-first|bad-last|check|check-long MODE TIMES");
     ExitCode::FAILURE
 }
 
@@ -74,13 +91,41 @@ fn weighted(mode: u32, times: u32) {
     }
 }
 
-fn message(mode: u32, times: u32) {
+/// The tones of a message of 1,024 codes.
+fn message_tones(mode: u32) -> Vec<u16> {
     let mut tones = vec![0; 64 * LONGEST_MESSAGE.div_ceil(mode as usize)];
     let sent = library::encode_message(mode, &letters(LONGEST_MESSAGE), &mut tones);
     assert_eq!(sent.number, 0);
+    tones
+}
+
+fn message(mode: u32, times: u32) {
+    let tones = message_tones(mode);
     let mut text = [0; LONGEST_MESSAGE + 8];
     for _ in 0..times {
         let answer = library::decode_message(mode, LEAST_LEAD, black_box(&tones), &mut text);
         assert_eq!(black_box(answer).number, 0);
+    }
+}
+
+/// The message with a bad tone, the lowest number that is none of the mode's, at the place that `place_of` makes of its length.
+fn refused(mode: u32, times: u32, place_of: fn(usize) -> usize) {
+    let mut tones = message_tones(mode);
+    let place = place_of(tones.len());
+    tones[place] = 1 << mode;
+    let mut text = [0; LONGEST_MESSAGE + 8];
+    for _ in 0..times {
+        let answer = library::decode_message(mode, LEAST_LEAD, black_box(&tones), &mut text);
+        assert_eq!(black_box(answer).number, 8);
+    }
+}
+
+/// The range check by itself, of so many good tones.
+fn check(mode: u32, times: u32, count: usize) {
+    let mut tones = message_tones(mode);
+    tones.truncate(count);
+    for _ in 0..times {
+        let looked = library::check_tones(mode, black_box(&tones));
+        assert_eq!(black_box(looked).looked, count as u64);
     }
 }

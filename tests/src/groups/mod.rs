@@ -8,6 +8,7 @@ mod heard;
 mod lent;
 pub mod listing;
 pub mod plain;
+pub mod range;
 mod receivers;
 pub mod records;
 pub mod sheet;
@@ -18,7 +19,7 @@ pub mod weighted;
 pub mod weights;
 pub mod words;
 
-use olivia_tests::library::{Answer, Block, Character};
+use olivia_tests::library::{Answer, Block, Character, Looked};
 use olivia_tests::paper::{self, Refusal};
 
 /// The lines that a group prints, or the first difference: the inputs, what was wanted, what was given.
@@ -62,6 +63,19 @@ fn record_of(character: &paper::Character) -> Character {
         correlation: character.correlation,
         next: character.next as u32,
         next_correlation: character.next_correlation,
+    }
+}
+
+/// What the library tells of a range check that stands for what the paper says of it.
+fn looked_of(said: &paper::Looked) -> Looked {
+    let (number, place) = match said.found {
+        Ok(()) => (0, 0),
+        Err(refusal) => (refusal.number, refusal.place as u64),
+    };
+    Looked {
+        number,
+        place,
+        looked: said.looked as u64,
     }
 }
 

@@ -4,6 +4,7 @@ pub mod block;
 pub mod draw;
 mod frequency;
 mod message;
+pub mod range;
 mod records;
 mod tally;
 mod trial;
@@ -28,6 +29,9 @@ trait Case: Debug {
     /// Pairs of refusals of which a case breaks both limits, and is given the first.
     const ORDERS: &'static [Order] = &[];
 
+    /// What else a call can come to.
+    const OUTCOMES: &'static [&'static str] = &[];
+
     fn draw(random: &mut Random) -> Self;
 
     fn mode(&self) -> u32;
@@ -39,11 +43,13 @@ trait Case: Debug {
 /// A refusal that was given, and one that was not, though its limit is broken too.
 type Order = (u32, u32);
 
-/// What both sides gave: the numbers of their answers, the kinds of each record in them, and which checks came before others.
+/// What both sides gave: the numbers of their answers, the kinds of each record in them, which checks came before others, and for
+/// each of the function's outcomes whether it came to that.
 struct Met {
     numbers: Vec<u32>,
     records: Vec<Kinds>,
     orders: Vec<Order>,
+    outcomes: Vec<bool>,
 }
 
 impl Met {
@@ -52,6 +58,7 @@ impl Met {
             numbers: numbers.to_vec(),
             records: vec![],
             orders: vec![],
+            outcomes: vec![],
         }
     }
 }
@@ -67,6 +74,7 @@ pub fn run() -> Report {
     many::<trial::Trial>(&mut random, &mut tally, 40_000)?;
     many::<weighted::Decode>(&mut random, &mut tally, 80_000)?;
     many::<weighted_trial::Trial>(&mut random, &mut tally, 40_000)?;
+    many::<range::Check>(&mut random, &mut tally, 120_000)?;
     tally.expect_every_refusal()?;
     tally.expect_every_kind()?;
     Ok(tally.lines())

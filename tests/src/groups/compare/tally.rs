@@ -1,4 +1,4 @@
-//! How often each function, mode, refusal and order of two checks, and each kind of record was met.
+//! How often each function, mode, refusal, order of two checks and other outcome, and each kind of record was met.
 
 use super::records::KINDS;
 use super::{Case, Met, Order};
@@ -10,7 +10,7 @@ pub const MODES: [u32; 13] = [1, 2, 3, 4, 5, 6, 7, 8, 0, 9, 16, 24, u32::MAX];
 /// The refusals of document 01, and that of order 3 of document 02.
 const REFUSALS: [u32; 13] = [1, 2, 3, 4, 5, 6, 7, 8, 9, 10, 11, 12, 14];
 
-/// Each kind of record and each order of two checks is met at least so often.
+/// Each kind of record, each order of two checks and each other outcome is met at least so often.
 const OFTEN: usize = 100;
 
 #[derive(Default)]
@@ -23,10 +23,12 @@ pub struct Row {
     function: &'static str,
     refusals: &'static [u32],
     orders: &'static [Order],
+    outcomes: &'static [&'static str],
     cases: usize,
     by_mode: BTreeMap<u32, usize>,
     by_number: BTreeMap<u32, usize>,
     by_order: BTreeMap<Order, usize>,
+    by_outcome: Vec<usize>,
     records: usize,
     by_kind: [usize; KINDS.len()],
 }
@@ -37,10 +39,12 @@ impl Tally {
             function: C::FUNCTION,
             refusals: C::REFUSALS,
             orders: C::ORDERS,
+            outcomes: C::OUTCOMES,
             cases: 0,
             by_mode: BTreeMap::new(),
             by_number: BTreeMap::new(),
             by_order: BTreeMap::new(),
+            by_outcome: vec![0; C::OUTCOMES.len()],
             records: 0,
             by_kind: [0; KINDS.len()],
         });
@@ -85,11 +89,12 @@ impl Tally {
         let mut lines = format!("{cases} cases\n  answers by number, {}", numbers.join(", "));
         for row in &self.rows {
             lines += &format!(
-                "\n  {}: {} cases, {}{}",
+                "\n  {}: {} cases, {}{}{}",
                 row.function,
                 row.cases,
                 row.numbers(),
-                row.orders()
+                row.orders(),
+                row.outcomes()
             );
         }
         let kinds = KINDS.iter().enumerate();
@@ -110,6 +115,9 @@ impl Row {
         }
         for &order in &met.orders {
             *self.by_order.entry(order).or_default() += 1;
+        }
+        for (count, &is_outcome) in self.by_outcome.iter_mut().zip(&met.outcomes) {
+            *count += usize::from(is_outcome);
         }
         for kinds in &met.records {
             self.records += 1;
@@ -138,7 +146,15 @@ impl Row {
             .collect()
     }
 
-    /// Every mode was handed in, every answer that the function can give was met, and every order of two checks often.
+    fn outcomes(&self) -> String {
+        let counts = self.outcomes.iter().zip(&self.by_outcome);
+        counts
+            .map(|(outcome, count)| format!(", {outcome}: {count}"))
+            .collect()
+    }
+
+    /// Every mode was handed in, every answer that the function can give was met, and every order of two checks and other outcome
+    /// often.
     pub fn expect_all(&self) -> Result<(), String> {
         if let Some(mode) = MODES.iter().find(|mode| !self.by_mode.contains_key(mode)) {
             return Err(format!("{} never met mode {mode}", self.function));
@@ -147,10 +163,16 @@ impl Row {
         if let Some(number) = numbers.find(|number| !self.by_number.contains_key(number)) {
             return Err(format!("{} never met answer {number}", self.function));
         }
-        match self.orders.iter().find(|order| self.order(order) < OFTEN) {
-            Some((first, later)) => Err(format!(
+        if let Some((first, later)) = self.orders.iter().find(|order| self.order(order) < OFTEN) {
+            return Err(format!(
                 "{} seldom met {first} before {later}",
                 self.function
+            ));
+        }
+        match self.by_outcome.iter().position(|&count| count < OFTEN) {
+            Some(place) => Err(format!(
+                "{} seldom met: {}",
+                self.function, self.outcomes[place]
             )),
             None => Ok(()),
         }

@@ -59,7 +59,7 @@ pub fn heard(
 }
 
 /// 64 weights from 0 to 15: all alike, few or half of them low, or any.
-fn right_weights(random: &mut Random) -> Vec<u8> {
+pub fn right_weights(random: &mut Random) -> Vec<u8> {
     let any = |random: &mut Random| random.between(0, GREATEST_WEIGHT.into()) as u8;
     let alike = any(random);
     let kind = random.below(8);
