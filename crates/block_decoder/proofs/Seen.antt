@@ -1,17 +1,19 @@
 -- The symbols that are seen and the weights that count: a turn of the loop that puts symbols down, and that the decisions by them are those by
 -- the tones and weights heard.
-use mathlib.Core.Path.{_≡_, refl, sym, _∙_, ap, ap₂}
+use mathlib.Core.Path.{_≡_, sym, _∙_, ap, ap₂}
 use mathlib.Core.Bool.{Bool, true, false, cond}
 use mathlib.Core.List.{List}
 use Prim.Native.Nat.{ℕ, _+_, _%_, _<_, _≤_}
 use native.Mathlib.Omega.{arith}
 use borrow.Author.Tests.{eq-eqb, ne-eqb}
 use lib.Dec.{eqb}
+use lib.IntN.{pos}
 use lib.ListN.{length, set, replicate, length-replicate}
 use Rattle.lists.specs.Lists.{tab, num}
 use Rattle.lists.proofs.Fronts.{over-start, over-set, over-length, over-tab-whole}
 use Rattle.lists.proofs.Tables.{tab-length, tab-at, tab-ext}
-use Rattle.walsh.specs.Words.{turned}
+use Rattle.refusal.specs.Checks.{isMode}
+use Rattle.walsh.specs.Words.{signed, turned}
 use Rattle.walsh.proofs.Signed.{signed-zero}
 use Rattle.decision.specs.declared.Character.{Character}
 use Rattle.decision.proofs.Choice.{counts-decide}
@@ -20,7 +22,9 @@ use Rattle.chain.specs.Tables.{symbolOf}
 use Rattle.chain.proofs.GrayCodes.{symbol-marked}
 use Rattle.weight_range.specs.Range.{HasWeights}
 use Rattle.block_decoder.specs.Decoding.{heardSymbol, symbolsOf, countOf, countIn, weightedAt, weightedOf, none, padded}
-use Rattle.block_decoder.specs.Internal.{seenSymbol, seenTo, heardWeight, heardWeights, AreSeen, seenCharacter}
+use Rattle.block_decoder.specs.Symbols.{symbolCount, symbolCharacter, symbolCharacters}
+use Rattle.block_decoder.specs.Internal.{seenSymbol, seenTo, heardWeight, heardWeights}
+use Rattle.block_decoder.proofs.Counts.{symbol-heard, count-missing, count-present}
 
 zeros : length {A = ℕ} (replicate 64 0) ≡ 64
 zeros = length-replicate {A = ℕ} 64 0
@@ -71,50 +75,30 @@ module _ (tones weights : List ℕ) where
   unfolding heardWeights
   weight-at t l = tab-at (λ k. heardWeight (num tones k) (num weights k)) 0 64 t l
 
-  never-marked : (tone : ℕ) → eqb (seenSymbol tone) missingMark ≡ false
-  unfolding seenSymbol
-  never-marked tone = by (eqb tone missingMark)
-    where
-      by : (s : Bool) → eqb (cond s 0 (symbolOf tone)) missingMark ≡ false
-      by true = refl
-      by false = symbol-marked tone
-
-  weight-within : (tone weight : ℕ) → weight ≤ 15 → heardWeight tone weight ≤ 15
-  unfolding heardWeight
-  weight-within tone weight h = by (eqb tone missingMark)
-    where
-      by : (s : Bool) → cond s 0 weight ≤ 15
-      by true = omega arith
-      by false = h
-
   module _ (w : HasWeights 15 weights) where
-    pub are-seen : AreSeen (seenTo tones 64) (heardWeights tones weights)
-    are-seen = record {
-      seen = λ t l. rw (symbol-at t l) (never-marked (num tones t));
-      weighed = λ t l. rw (weight-at t l) (weight-within (num tones t) (num weights t) (w .each t l));
-    }
+    -- a missing tone counts 0 whatever its sign
+    count-of : (k : Bool) (place weight tone : ℕ) → weight ≤ 15
+        → signed (turned k (bit (seenSymbol tone) place)) (pos (heardWeight tone weight % 16)) ≡ countOf k place weight (heardSymbol tone)
+    unfolding heardWeight heardSymbol seenSymbol
+    count-of k place weight tone h = by (eqb tone missingMark)
+      where
+        by : (s : Bool) → signed (turned k (bit (cond s 0 (symbolOf tone)) place)) (pos (cond s 0 weight % 16)) ≡ countOf k place weight (cond s missingMark (symbolOf tone))
+        by true = signed-zero (turned k (bit 0 place)) ∙ sym (count-missing k place weight)
+        by false =
+            let few : weight % 16 ≡ weight = omega arith in
+            rw few (sym (count-present k place weight (symbolOf tone) (symbol-marked tone)))
 
-  -- a missing tone counts 0 whatever its sign
-  count-of : (k : Bool) (place weight tone : ℕ) → countOf k place (heardWeight tone weight) (seenSymbol tone) ≡ countOf k place weight (heardSymbol tone)
-  unfolding heardWeight heardSymbol seenSymbol countOf
-  count-of k place weight tone = by (eqb tone missingMark)
-    where
-      by : (s : Bool) → countOf k place (cond s 0 weight) (cond s 0 (symbolOf tone)) ≡ countOf k place weight (cond s missingMark (symbolOf tone))
-      by true = signed-zero (turned k (bit 0 place))
-      by false = refl
+    seen-count : (b q t : ℕ) → t < 64 → symbolCount b (seenTo tones 64) (heardWeights tones weights) q t ≡ countIn b (symbolsOf tones) weights q t
+    unfolding symbolCount countIn
+    seen-count b q t l =
+        ap₂ (λ (n s : ℕ). signed (turned (keyBit q t) (bit s ((q + t) % b))) (pos (n % 16))) (weight-at t l) (symbol-at t l)
+        ∙ count-of (keyBit q t) ((q + t) % b) (num weights t) (num tones t) (w .each t l)
+        ∙ ap (countOf (keyBit q t) ((q + t) % b) (num weights t)) (sym (symbol-heard tones t l))
 
-  seen-count : (b q t : ℕ) → t < 64 → countIn b (seenTo tones 64) (heardWeights tones weights) q t ≡ countIn b (symbolsOf tones) weights q t
-  unfolding countIn symbolsOf
-  seen-count b q t l =
-      ap₂ (λ (n s : ℕ). countOf (keyBit q t) ((q + t) % b) n s) (weight-at t l) (symbol-at t l)
-      ∙ count-of (keyBit q t) ((q + t) % b) (num weights t) (num tones t)
-      ∙ ap (countOf (keyBit q t) ((q + t) % b) (num weights t)) (sym (tab-at (λ i. heardSymbol (num tones i)) 0 64 t l))
+    seen-characters : (b : ℕ) → isMode b ≡ true → symbolCharacters b (seenTo tones 64) (heardWeights tones weights) ≡ weightedOf b tones weights
+    unfolding symbolCharacters symbolCharacter weightedOf weightedAt
+    seen-characters b e = rw e (tab-ext none _ _ b (λ q h. counts-decide _ _ (seen-count b q)))
 
-  seen-characters : (b : ℕ) → tab (seenCharacter b (seenTo tones 64) (heardWeights tones weights)) b ≡ weightedOf b tones weights
-  unfolding seenCharacter weightedOf weightedAt
-  seen-characters b =
-      tab-ext none _ _ b (λ q h. counts-decide _ _ (seen-count b q))
-
-  pub seen-found : (b : ℕ) (symbols heard : List ℕ) (found : List Character) → symbols ≡ seenTo tones 64 → heard ≡ heardWeights tones weights
-      → found ≡ padded (tab (seenCharacter b symbols heard) b) → found ≡ padded (weightedOf b tones weights)
-  seen-found b symbols heard found p q e = e ∙ ap padded (rw (p, q) (seen-characters b))
+    pub seen-found : (b : ℕ) (symbols heard : List ℕ) (found : List Character) → isMode b ≡ true → symbols ≡ seenTo tones 64 → heard ≡ heardWeights tones weights
+        → found ≡ padded (symbolCharacters b symbols heard) → found ≡ padded (weightedOf b tones weights)
+    seen-found b symbols heard found e p q f = f ∙ ap padded (rw (p, q) (seen-characters b e))

@@ -1,4 +1,4 @@
--- What signs by the tables count for a character is what the rule counts, of symbols that are seen.
+-- What signs by the tables count for a character is what its symbols count.
 use mathlib.Core.Path.{_≡_, _∙_, ap, ap₂, sym}
 use mathlib.Core.Bool.{Bool, false, not}
 use mathlib.Core.List.{List}
@@ -9,24 +9,20 @@ use native.Mathlib.Numerals.{one-add}
 use native.Mathlib.Omega.{arith}
 use lib.Bits.{bitAnd, and-high}
 use lib.Dec.{eqb}
+use lib.IntN.{pos}
 use lib.ListN.{getD}
 use lib.Pow.{pow-pos}
 use borrow.Author.Tests.{eq-eqb, ne-eqb}
 use Rattle.lists.specs.Lists.{tab, num}
 use Rattle.lists.proofs.Tables.{tab-at}
-use Rattle.walsh.specs.Words.{turned}
+use Rattle.walsh.specs.Words.{signed, turned}
 use Rattle.walsh.proofs.Signs.{lowest-digit, odd-zero, odd-one}
 use Rattle.lead_finder.specs.Counts.{countAt}
 use Rattle.chain.specs.Chain.{bit, keyBit}
 use Rattle.chain.specs.Tables.{keysAt, placeValue}
-use Rattle.chain.proofs.Binary.{number-bit}
-use Rattle.block_decoder.specs.Decoding.{countOf, countIn}
-use Rattle.block_decoder.specs.Internal.{signBy, tableSign, AreSeen}
-
--- the key bit of character q is bit q of the key bits
-pub keys-bit : (t q : ℕ) → q < 8 → bit (keysAt t) q ≡ keyBit q t
-unfolding keysAt
-keys-bit t q h = number-bit (λ k. keyBit k t) 8 q h
+use Rattle.chain.proofs.Keys.{keys-bit}
+use Rattle.block_decoder.specs.Symbols.{symbolCount}
+use Rattle.block_decoder.specs.Internal.{signBy, tableSign}
 
 -- AND with the value of a place leaves the bit there
 value-and : (s p : ℕ) → bitAnd s (2 ^ p) ≡ s / 2 ^ p % 2 * 2 ^ p
@@ -51,12 +47,11 @@ table-sign b symbols q t h l =
     ∙ ap (turned (keyBit q t)) (value-bit (num symbols t) ((q + t) % b))
 
 -- what the signs and weights count for character q, made by the tables
-pub table-count : (b q : ℕ) (keys values symbols heard : List ℕ) (signs : List Bool)
-    → keys ≡ tab keysAt 64 → values ≡ tab (placeValue b) 72 → q < 8 → signs ≡ tab (tableSign keys values symbols q) 64 → AreSeen symbols heard
-    → (t : ℕ) → t < 64 → countAt signs heard t ≡ countIn b symbols heard q t
-unfolding countIn countOf
-table-count b q keys values symbols heard signs k v h s w t l =
+pub table-count : (b q : ℕ) (keys values symbols weights : List ℕ) (signs : List Bool)
+    → keys ≡ tab keysAt 64 → values ≡ tab (placeValue b) 72 → q < 8 → signs ≡ tab (tableSign keys values symbols q) 64
+    → (t : ℕ) → t < 64 → countAt signs weights t ≡ symbolCount b symbols weights q t
+unfolding symbolCount
+table-count b q keys values symbols weights signs k v h s t l =
     let sign : getD signs t false ≡ turned (keyBit q t) (bit (num symbols t) ((q + t) % b)) =
     rw (s, k, v) (tab-at (tableSign (tab keysAt 64) (tab (placeValue b) 72) symbols q) false 64 t l ∙ table-sign b symbols q t h l) in
-    let few : num heard t % 16 ≡ num heard t = omega (arith, w .weighed t l) in
-    rw (sign, few, w .seen t l)
+    ap (λ (s : Bool). signed s (pos (num weights t % 16))) sign

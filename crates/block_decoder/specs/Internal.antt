@@ -1,21 +1,19 @@
 -- What only private contracts need: the symbols that are seen and the weights that count, the sign of what a symbol counts by the tables of
 -- key bits and values of places, and what is found in an answer's array of eight characters.
-use mathlib.Core.Bool.{Bool, false, cond, not}
+use mathlib.Core.Bool.{Bool, cond, not}
 use mathlib.Core.List.{List}
-use mathlib.Core.Path.{_≡_}
-use Prim.Native.Nat.{ℕ, _+_, _<_, _≤_}
+use Prim.Native.Nat.{ℕ, _+_}
 use lib.Bits.{bitAnd}
 use lib.Dec.{ltb, eqb}
 use lib.ListN.{getD, replicate}
 use Rattle.lists.specs.Lists.{tab, num, over}
 use Rattle.lists.specs.Places.{first}
 use Rattle.refusal.specs.Refused.{unclearAt}
-use Rattle.walsh.specs.Words.{corr, turned}
-use Rattle.decision.specs.Decision.{decision}
+use Rattle.walsh.specs.Words.{turned}
 use Rattle.decision.specs.declared.Character.{Character}
 use Rattle.chain.specs.Chain.{missingMark, bit}
 use Rattle.chain.specs.Tables.{symbolOf}
-use Rattle.block_decoder.specs.Decoding.{countIn, none, leadIn}
+use Rattle.block_decoder.specs.Decoding.{none, leadIn}
 use Rattle.block_decoder.specs.declared.Decoded.{Decoded}
 use Rattle.block_decoder.specs.declared.Decoded.the-variants.{Text, Refused}
 
@@ -35,15 +33,6 @@ heardWeight tone weight = cond (eqb tone missingMark) 0 weight
 
 unfoldable pub heardWeights : List ℕ → List ℕ → List ℕ
 heardWeights tones weights = tab (λ t. heardWeight (num tones t) (num weights t)) 64
-
--- no symbol is the missing mark, and no weight is above 15
-pub record AreSeen (symbols weights : List ℕ) : Type 0 where
-  pub seen : (t : ℕ) → t < 64 → eqb (num symbols t) missingMark ≡ false
-  pub weighed : (t : ℕ) → t < 64 → num weights t ≤ 15
-
--- the decision on character q by such symbols and weights
-unfoldable pub seenCharacter : ℕ → List ℕ → List ℕ → ℕ → Character
-seenCharacter b symbols weights q = decision (corr (countIn b symbols weights q))
 
 -- ---- signs by tables
 

@@ -1,21 +1,15 @@
 // The parts of decoding a block.
-use super::NONE;
-use super::interleaver;
 use chain::MISSING;
 use chain::gray;
-use chain::scrambler;
 use decision::Character;
 ghost use mathlib.Core.Path.{_≡_};
-ghost use mathlib.Core.Bool.{true};
 ghost use Prim.Native.Nat.{_+_, _≤_};
 ghost use lib.ListN.{length};
 ghost use Rattle.lists.specs.Lists.{tab, over};
 ghost use Rattle.lists.specs.Places.{scan};
-ghost use Rattle.refusal.specs.Checks.{isMode};
 ghost use Rattle.chain.specs.Tables.{symbolOf};
 ghost use Rattle.tone_range.specs.Range.{badTone, firstBadTone};
-ghost use Rattle.block_decoder.specs.Decoding.{padded};
-ghost use Rattle.block_decoder.specs.Internal.{seenTo, heardWeight, heardWeights, AreSeen, seenCharacter, codeIn, firstUnclearIn};
+ghost use Rattle.block_decoder.specs.Internal.{seenTo, heardWeight, heardWeights, codeIn, firstUnclearIn};
 
 // Looks at 16 tones, one after the other, up to the first bad one, and puts down the symbol of each, 0 for a missing one. The place of the bad
 // tone, else that after the row. Both arms write, and the mark is looked for in the rare one alone: that takes the fewest instructions.
@@ -77,23 +71,6 @@ pub fn heard_weights(tones: &[u16], weights: &[u8]) -> [u8; 64]
         t += 1;
     }
     heard
-}
-
-// The decisions on the characters of a block, by its symbols and the weights that count, in an array of eight.
-pub fn characters(mode: u32, symbols: &[u8; 64], heard: &[u8; 64]) -> [Character; 8]
-    requires { ⌜ (isMode mode ≡ true) × AreSeen (now symbols) (now heard) ⌝ }
-    ensures { λ r. ⌜ r ≡ padded (tab (seenCharacter mode (now (symbols .entry)) (now (heard .entry))) mode) ⌝ }
-{
-    let keys = scrambler::keys();
-    let values = chain::interleaver::values(mode);
-    let b = mode as usize;
-    let mut characters = [NONE; 8];
-    let mut q: usize = 0;
-    while q < b {
-        characters[q] = lead_finder::decide(interleaver::signs(q, &keys, &values, symbols), heard);
-        q += 1;
-    }
-    characters
 }
 
 // The lowest of the mode's characters whose lead is under least_lead, else mode.

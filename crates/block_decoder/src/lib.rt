@@ -1,11 +1,13 @@
 // One block of the published chain, decoded: document 01, "Hearing a block", and document 02, order 3.
+use chain::scrambler;
 use decision::Character;
 use refusal::Refusal;
 use refusal::checks;
 ghost use mathlib.Core.Path.{_≡_};
 ghost use Prim.Native.Nat.{ℕ, _≤_};
 ghost use lib.ListN.{length};
-ghost use Rattle.block_decoder.specs.Decoding.{weightedOf, codesOf, refused, heardBlock, decodeBlock, decodeWeighted, heardInto, decodedInto, weightedInto};
+ghost use Rattle.block_decoder.specs.Decoding.{weightedOf, codesOf, padded, refused, heardBlock, decodeBlock, decodeWeighted, heardInto, decodedInto, weightedInto};
+ghost use Rattle.block_decoder.specs.Symbols.{symbolCharacters};
 ghost use Rattle.block_decoder.specs.Internal.{judgementIn};
 
 mod decode;
@@ -89,6 +91,27 @@ pub fn decide_block(mode: u32, least_lead: u32, tones: &[u16], room: usize) -> B
     )
 }
 
+// The decisions on the mode's characters by a block's symbols, none of which is missing; what is to count nothing has weight 0. Of a weight
+// the lowest four bits count. The rest of the eight are NONE, and all of them if there is no such mode.
+pub fn decide_symbols(mode: u32, symbols: &[u8; 64], weights: &[u8; 64]) -> [Character; 8]
+    ensures { λ r. ⌜ r ≡ padded (symbolCharacters mode (now (symbols .entry)) (now (weights .entry))) ⌝ }
+{
+    let mut characters = [NONE; 8];
+    if !checks::is_mode(mode) {
+        return characters;
+    }
+    let keys = scrambler::keys();
+    let values = chain::interleaver::values(mode);
+    let b = mode as usize;
+    let mut q: usize = 0;
+    while q < b {
+        let signs = interleaver::signs(q, &keys, &values, symbols);
+        characters[q] = lead_finder::decide(signs, weights);
+        q += 1;
+    }
+    characters
+}
+
 // The answer for an output of room codes, where weights are 0 to greatest. A text goes to the front of codes.
 fn hear(
     greatest: u8,
@@ -129,7 +152,7 @@ fn hear(
         return refused(refusal::WEIGHT, bad_weight);
     }
     let heard = decode::heard_weights(tones, weights);
-    let characters = decode::characters(mode, &symbols, &heard);
+    let characters = decide_symbols(mode, &symbols, &heard);
     let answer = judge(b, least_lead, characters);
     match answer {
         Decoded::Text(count) => decode::put_codes(count, characters, codes),

@@ -18,7 +18,6 @@ use Rattle.delivery.specs.Delivery.{delivery}
 use Rattle.delivery.proofs.TextCases.{passes}
 use Rattle.message_encoder.specs.Blocks.{isWhole}
 use Rattle.message_decoder.specs.Decoding.{messageCharacters, decodeMessage, messageDecodedInto}
-use Rattle.message_decoder.specs.Internal.{unlessRefused}
 
 -- what the checks before the range of the tones leave
 pub record Passed (limit b m : ℕ) (count room : ℕ) : Type 0 where
@@ -49,11 +48,6 @@ module _ (limit b m : ℕ) (tones : List ℕ) (room : ℕ) where
       pub refuses-room : isWhole limit b (length tones) ≡ true → room < length tones / 64 * b → decodeMessage limit b m tones room ≡ Refused (refusedAt 9 0)
       unfolding decodeMessage
       refuses-room g h = simp (e, f, g, lt-ltb room (length tones / 64 * b) h)
-
-  -- what is left to judge
-  pub judges-blocks : Passed limit b m (length tones) room → decodeMessage limit b m tones room ≡ unlessRefused b m tones (delivery limit b (codesOf (messageCharacters b tones)))
-  unfolding decodeMessage unlessRefused
-  judges-blocks p = simp (p .mode, p .lead, p .whole, le-ltb room (length tones / 64 * b) (p .fits))
 
   pub refuses-tone : Passed limit b m (length tones) room → firstBadTone (2 ^ b) tones < length tones
       → decodeMessage limit b m tones room ≡ Refused (refusedAt 8 (firstBadTone (2 ^ b) tones))

@@ -13,24 +13,22 @@ use Rattle.lists.specs.Lists.{over}
 use Rattle.lists.proofs.Fronts.{over-whole, over-fits, take-over, over-part}
 use Rattle.lists.proofs.Joins.{joined-more}
 use Rattle.lists.proofs.Places.{first-at}
-use Rattle.refusal.specs.Refused.{refusedAt, unclearAt}
+use Rattle.refusal.specs.Refused.{unclearAt}
 use Rattle.refusal.specs.Checks.{IsSet}
 use Rattle.refusal.specs.declared.Refusal.{Refusal}
 use Rattle.decision.specs.declared.Character.{Character}
-use Rattle.tone_range.specs.Range.{HasTones, firstBadTone}
-use Rattle.tone_range.proofs.Ranges.{in-range-tones}
-use Rattle.block_decoder.specs.Decoding.{plain, charactersOf, codesOf, leadIn, firstUnclear, unlessUnclear, refused, decodeBlock, decodedInto}
+use Rattle.tone_range.specs.Range.{HasTones}
+use Rattle.block_decoder.specs.Decoding.{plain, charactersOf, codesOf, leadIn, firstUnclear, unlessUnclear, decodeBlock, decodedInto}
 use Rattle.block_decoder.specs.declared.Decoded.{Decoded}
 use Rattle.block_decoder.specs.declared.Decoded.the-variants.{Text, Refused}
 use Rattle.block_decoder.specs.declared.BlockDecoded.{BlockDecoded}
 use Rattle.block_decoder.proofs.Characters.{characters-length, codes-length}
 use Rattle.block_decoder.proofs.Clarity.{text-refused, unclear-is, all-clear, clear-lead, unclear-told, clear-told}
-use Rattle.block_decoder.proofs.DecodeCases.{accepted, refuses-tone, codes-written}
-use Rattle.block_decoder.proofs.Answers.{passed, decided}
+use Rattle.block_decoder.proofs.DecodeCases.{accepted, codes-written}
+use Rattle.block_decoder.proofs.Answers.{decided}
 use Rattle.message_encoder.specs.Blocks.{blockAt}
 use Rattle.message_encoder.proofs.Counts.{next-place, place-room}
 use Rattle.message_decoder.specs.Decoding.{heardCharacters}
-use Rattle.message_decoder.proofs.ToneRanges.{block-length}
 use Rattle.message_decoder.proofs.HeardBlocks.{heard-count, heard-before, heard-at, heard-codes, heard-codes-length}
 
 -- ---- the whole text, by what is known of its blocks
@@ -133,36 +131,6 @@ module _ (b m : ℕ) (tones : List ℕ) (k : ℕ) (part : List ℕ) (s : IsSet b
         codes-written 1 b m (blockAt tones k) plain part e
         ∙ ap (λ (x : List ℕ). over x part) (take-all count (codesOf block) (omega arith))
         ∙ over-whole (codesOf block) part (omega arith)
-
--- ---- whether the tones of block k are in range, by its answer
-
-module _ (b m : ℕ) (tones : List ℕ) (n k : ℕ) (whole : length tones ≡ 64 * n) (inside : k < n) (part : List ℕ) (s : IsSet b m) (size : length part ≡ b) (before : Clear b m tones k) where
-  in-range : 64 ≤ firstBadTone (2 ^ b) (blockAt tones k) → HasTones (2 ^ b) (blockAt tones k)
-  in-range h = in-range-tones b (blockAt tones k) (block-length tones n k whole inside) h
-
-  bad : firstBadTone (2 ^ b) (blockAt tones k) < 64 → decodeBlock b m (blockAt tones k) (length part) .answer ≡ Refused (refusedAt 8 (firstBadTone (2 ^ b) (blockAt tones k)))
-  unfolding refused
-  bad h =
-      ap (λ (d : BlockDecoded). d .answer)
-      (refuses-tone 1 b m (blockAt tones k) plain (length part) (passed b m (blockAt tones k) (length part) s (block-length tones n k whole inside) (omega arith)) h)
-
-  pub accepted-in-range : (count : ℕ) → decodeBlock b m (blockAt tones k) (length part) .answer ≡ Text count → HasTones (2 ^ b) (blockAt tones k)
-  accepted-in-range count e = in-range (accepted 1 b m (blockAt tones k) plain (length part) count e .in-range)
-
-  module _ (r : Refusal) (e : decodeBlock b m (blockAt tones k) (length part) .answer ≡ Refused r) where
-    pub refused-bad : r .number ≡ 8 → (firstBadTone (2 ^ b) (blockAt tones k) < 64) × (r .place ≡ firstBadTone (2 ^ b) (blockAt tones k))
-    refused-bad number = by (decLt (firstBadTone (2 ^ b) (blockAt tones k)) 64)
-      where
-        by : Dec (firstBadTone (2 ^ b) (blockAt tones k) < 64) → (firstBadTone (2 ^ b) (blockAt tones k) < 64) × (r .place ≡ firstBadTone (2 ^ b) (blockAt tones k))
-        by (yes l) = (l, ap (λ (x : Refusal). x .place) (same-refusal (sym e ∙ bad l)))
-        by (no l) = absurd (omega (arith, number, ap (λ (x : Refusal). x .number) (unclear b m tones k part s (in-range (omega arith)) size before r e .1)))
-
-    pub refused-in-range : (r .number ≡ 8 → ⊥) → HasTones (2 ^ b) (blockAt tones k)
-    refused-in-range number = by (decLt (firstBadTone (2 ^ b) (blockAt tones k)) 64)
-      where
-        by : Dec (firstBadTone (2 ^ b) (blockAt tones k) < 64) → HasTones (2 ^ b) (blockAt tones k)
-        by (yes l) = absurd (number (ap (λ (x : Refusal). x .number) (same-refusal (sym e ∙ bad l))))
-        by (no l) = in-range (omega arith)
 
 -- ---- the codes collected
 

@@ -2,4 +2,3 @@ pub mod ToneRanges
 pub mod DecodeCases
 pub mod HeardBlocks
 pub mod Hearing
-pub mod Refusals

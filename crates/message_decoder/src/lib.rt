@@ -5,16 +5,16 @@ use refusal::Refusal;
 use refusal::checks;
 ghost use mathlib.Core.Path.{_≡_};
 ghost use mathlib.Core.Bool.{true};
-ghost use Prim.Native.Nat.{_+_, _*_, _≤_};
+ghost use Prim.Native.Nat.{_+_, _*_, _≤_, _^_};
 ghost use lib.ListN.{length, take};
 ghost use Rattle.lists.specs.Lists.{over};
 ghost use Rattle.refusal.specs.Checks.{isMode, isLead};
-ghost use Rattle.block_decoder.specs.Decoding.{codesOf, heardInto};
+ghost use Rattle.tone_range.specs.Range.{firstBadTone};
+ghost use Rattle.block_decoder.specs.Decoding.{codesOf, unlessUnclear, heardInto};
 ghost use Rattle.block_decoder.specs.declared.Decoded.the-variants.{Text};
 ghost use Rattle.delivery.specs.Delivery.{delivery};
 ghost use Rattle.message_encoder.specs.Blocks.{longest, isWhole};
 ghost use Rattle.message_decoder.specs.Decoding.{heardCharacters, decodeMessage, messageDecodedInto};
-ghost use Rattle.message_decoder.specs.Internal.{unlessRefused, unlessBad};
 
 // Decodes blocks of 64 tones to their text, at the front of text. Every block is decided before anything is written.
 pub fn decode_message(mode: u32, least_lead: u32, tones: &[u16], text: &mut [u8]) -> Decoded
@@ -56,6 +56,10 @@ fn decode_within(
     if text.len() < total {
         return Decoded::Refused(Refusal::at(refusal::ROOM, 0));
     }
+    let range = tone_range::check(checks::tone_count(mode), tones);
+    if range.bad < tones.len() {
+        return Decoded::Refused(Refusal::at(refusal::TONE, range.bad));
+    }
     let heard = collect(mode, least_lead, count, tones, codes);
     match heard {
         Decoded::Text(_) => deliver(limit, b, &codes[0..total], text),
@@ -75,48 +79,31 @@ fn is_whole(limit: usize, mode: usize, count: usize) -> bool
 fn collect(mode: u32, least_lead: u32, count: usize, tones: &[u16], codes: &mut [u8]) -> Decoded
     requires settings { ⌜ (isMode mode ≡ true) × (isLead «least_lead» ≡ true) ⌝ }
     requires whole { ⌜ length (now tones) ≡ 64 * count ⌝ }
+    requires range { ⌜ length (now tones) ≤ firstBadTone (2 ^ mode) (now tones) ⌝ }
     requires room { ⌜ count * mode ≤ length (now codes) ⌝ }
-    ensures answer { λ r. ⌜ r ≡ unlessRefused mode «least_lead» (now (tones .entry)) (Text (count * mode)) ⌝ }
+    ensures answer { λ r. ⌜ r ≡ unlessUnclear «least_lead» (heardCharacters mode (now (tones .entry)) count) (Text (count * mode)) ⌝ }
     ensures output { λ r. ⌜ (r ≡ Text (count * mode) → now (codes .exit) ≡ over (codesOf (heardCharacters mode (now (tones .entry)) count)) (now (codes .entry))) ⌝ }
 {
     let b = mode as usize;
     let mut k: usize = 0;
     let mut at: usize = 0;
     while k < count {
-        let heard = block_decoder::decode_block(
+        let answer = checked_block::decode(
             mode,
             least_lead,
             &tones[64 * k..64 * k + 64],
             &mut codes[at..at + b],
         );
-        let answer = heard.answer;
         match answer {
             Decoded::Text(_) => {}
-            Decoded::Refused(refused) => {
-                if refused.number == refusal::TONE {
-                    return Decoded::Refused(Refusal::at(refusal::TONE, 64 * k + refused.place));
-                }
-                let unclear = Refusal::unclear(at + refused.place, refused.lead);
-                let limit = checks::tone_count(mode);
-                return Decoded::Refused(unless_bad(limit, tones, 64 * k + 64, unclear));
+            Decoded::Refused(unclear) => {
+                return Decoded::Refused(Refusal::unclear(at + unclear.place, unclear.lead));
             }
         }
         at += b;
         k += 1;
     }
     Decoded::Text(at)
-}
-
-// The refusal, unless a tone from a place on is bad: a bad tone comes first, in a later block too.
-fn unless_bad(limit: u16, tones: &[u16], from: usize, refusal: Refusal) -> Refusal
-    requires { ⌜ from ≤ length (now tones) ⌝ }
-    ensures { λ r. ⌜ r ≡ unlessBad limit (now (tones .entry)) from refusal ⌝ }
-{
-    let range = tone_range::check(limit, &tones[from..tones.len()]);
-    if range.bad < tones.len() - from {
-        return Refusal::at(refusal::TONE, from + range.bad);
-    }
-    refusal
 }
 
 // The first n codes, over the front of text.

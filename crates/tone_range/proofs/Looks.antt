@@ -1,14 +1,11 @@
 -- What the range check finds and looks at, where it stops and where it ends; and the law.
 use mathlib.Core.Path.{_≡_, refl, sym, _∙_, ap}
-use mathlib.Core.Bool.{false}
 use mathlib.Core.List.{List, _++_}
-use Prim.Native.Nat.{ℕ, _+_, _-_, _<_, _≤_}
-use native.Mathlib.Decide.{decLt}
+use Prim.Native.Nat.{ℕ, _+_, _<_}
 use native.Mathlib.Omega.{arith}
 use borrow.Author.Tests.{lt-ltb, le-ltb}
-use lib.ListN.{length, drop, length-append, length-drop, List·getD-append}
-use lib.Seq.{getD-drop}
-use Rattle.lists.proofs.Places.{first-is, first-at, first-only}
+use lib.ListN.{length, length-append, List·getD-append}
+use Rattle.lists.proofs.Places.{first-is, first-at}
 use Rattle.tone_range.specs.Range.{badTone, firstBadTone, lookedAt, rangeOf}
 use Rattle.tone_range.specs.Laws.{Stops}
 use Rattle.tone_range.specs.declared.Looked.{Looked}
@@ -38,7 +35,7 @@ module _ (limit : ℕ) (tones rest : List ℕ) (h : firstBadTone limit tones < l
   tone-before : (t : ℕ) → t < length tones → badTone limit (tones ++ rest) t ≡ badTone limit tones t
   tone-before t l = rw (List·getD-append tones rest 0 t l)
 
-  pub bad-before : firstBadTone limit (tones ++ rest) ≡ firstBadTone limit tones
+  bad-before : firstBadTone limit (tones ++ rest) ≡ firstBadTone limit tones
   unfolding firstBadTone
   bad-before =
       let f = first-is (badTone limit tones) (length tones) in
@@ -51,29 +48,6 @@ module _ (limit : ℕ) (tones rest : List ℕ) (h : firstBadTone limit tones < l
   unseen =
       sym (looked-up-to limit (tones ++ rest) (firstBadTone limit tones) _ (omega (arith, length-append tones rest)) bad-before refl)
       ∙ looked-up-to limit tones (firstBadTone limit tones) _ h refl refl
-
--- where the first s tones are in range
-pub bad-after : (limit : ℕ) (tones : List ℕ) (s : ℕ) → s ≤ length tones → ((t : ℕ) → t < s → badTone limit tones t ≡ false)
-    → firstBadTone limit tones ≡ s + firstBadTone limit (drop s tones)
-unfolding firstBadTone
-bad-after limit tones s l good =
-    let f = first-is (badTone limit (drop s tones)) (length (drop s tones)) in
-    let size : length (drop s tones) ≡ length tones - s = length-drop s tones in
-    sym (first-only (badTone limit tones) (length tones) (s + firstBadTone limit (drop s tones))
-    (record {
-      within = omega (arith, f .within);
-      holds = λ h. sym (at (firstBadTone limit (drop s tones))) ∙ f .holds (omega arith);
-      lowest = λ k h. by k h (decLt k s);
-    }))
-  where
-    at : (t : ℕ) → badTone limit (drop s tones) t ≡ badTone limit tones (s + t)
-    at t = rw (getD-drop s tones t 0)
-
-    by : (k : ℕ) → k < s + firstBadTone limit (drop s tones) → Dec (k < s) → badTone limit tones k ≡ false
-    by k h (yes g) = good k g
-    by k h (no n) =
-        let e : s + (k - s) ≡ k = omega arith in
-        rw e at (sym (at (k - s)) ∙ first-is (badTone limit (drop s tones)) (length (drop s tones)) .lowest (k - s) (omega arith))
 
 pub stops : Stops
 stops = record { unseen = unseen }

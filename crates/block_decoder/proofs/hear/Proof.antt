@@ -17,7 +17,7 @@ use Rattle.block_decoder.specs.Internal.{seenTo}
 use Rattle.block_decoder.specs.declared.Decoded.{Decoded}
 use Rattle.block_decoder.specs.declared.Decoded.the-variants.{Text}
 use Rattle.block_decoder.specs.declared.BlockDecoded.{BlockDecoded}
-use Rattle.block_decoder.proofs.Seen.{seen-none, are-seen, seen-found}
+use Rattle.block_decoder.proofs.Seen.{seen-none, seen-found}
 use Rattle.block_decoder.proofs.DecodeCases.{Passed, refuses-mode, refuses-lead, refuses-count, refuses-weights, refuses-room, refuses-tone, refuses-weight, judges, same-decoded, refusal-told, accepted, codes-put}
 use Rattle.block_decoder.proofs.hear.Statement.{statement}
 use Rattle.block_decoder.proofs.hear.Tie as tie
@@ -143,23 +143,21 @@ weights-few c =
     let f = w .before .before .before in
     fewer-weights _ _ 15 (f .before .before .before .before .before .before .before .before .before .before .before .before .before .pre .0) (in-range-weights _ _ (passed (f .before .before .before) .weighed) (rw (w .first-bad-weight .ensures) at (c .if7 .left)))
 
-characters-requires : tie.Need-characters-requires
-characters-requires c κs =
-    let h = c .before .before in
-    let w = h .before .before in
-    (passed (w .before .before .before .before .before .before) .mode, rw (symbols-seen w, h .heard-weights .ensures) (are-seen _ _ (weights-few (h .before))))
+decide-symbols-requires : tie.Need-decide-symbols-requires
+decide-symbols-requires c κs = search needs
 
 -- the decisions are those on the block's characters
-found : (c : tie.After-characters) → let a = c .before .before .before .before .before .before .before .before .before .before .before .before .before .before .before .before .before .before .before .before .before .args in c .characters .result ≡ padded (weightedOf (a .mode) (a .tones .now) (a .weights .now))
+found : (c : tie.After-decide-symbols) → let a = c .before .before .before .before .before .before .before .before .before .before .before .before .before .before .before .before .before .before .before .before .before .args in c .decide-symbols .result ≡ padded (weightedOf (a .mode) (a .tones .now) (a .weights .now))
 found c =
     let h = c .before .before .before in
-    seen-found _ _ _ _ _ _ (symbols-seen (h .before .before)) (h .heard-weights .ensures) (c .characters .ensures)
+    let w = h .before .before in
+    seen-found _ _ (weights-few (h .before)) _ _ _ _ (passed (w .before .before .before .before .before .before) .mode) (symbols-seen w) (h .heard-weights .ensures) (c .decide-symbols .ensures)
 
 judge-requires : tie.Need-judge-requires
 judge-requires c κs = mode-range _ (passed (c .before .before .before .before .before .before .before .before .before .before .before) .mode) .1
 
 -- the answer where every check is passed
-decided : (c : tie.After-judge) → let a = c .before .before .before .before .before .before .before .before .before .before .before .before .before .before .before .before .before .before .before .before .before .before .args in _≡_ {A = BlockDecoded} (record { answer = c .judge .result; characters = c .before .characters .result }) (heardBlock (a .greatest) (a .mode) (a .least-lead) (a .tones .now) (a .weights .now) (a .room))
+decided : (c : tie.After-judge) → let a = c .before .before .before .before .before .before .before .before .before .before .before .before .before .before .before .before .before .before .before .before .before .before .args in _≡_ {A = BlockDecoded} (record { answer = c .judge .result; characters = c .before .decide-symbols .result }) (heardBlock (a .greatest) (a .mode) (a .least-lead) (a .tones .now) (a .weights .now) (a .room))
 decided c =
     let h = c .before .before .before .before in
     let w = h .before .before in
@@ -195,7 +193,7 @@ returns-8 c =
     let a = p .before .before .before in
     let d = a .before .before in
     let e = a .answer .given .1 in (
-      ap (λ (x : Decoded). record { answer = x; characters = d .before .characters .result }) (sym e) ∙ decided d,
+      ap (λ (x : Decoded). record { answer = x; characters = d .before .decide-symbols .result }) (sym e) ∙ decided d,
       codes-put _ _ _ _ _ _ _ _ _ _ (accepted-text d e) (found (d .before)) (p .put-codes .ensures),
     )
 
@@ -230,7 +228,7 @@ hear-spec =
     refused-requires-7
     returns-7
     heard-weights-requires
-    characters-requires
+    decide-symbols-requires
     judge-requires
     enum-known-answer
     put-codes-requires

@@ -1,24 +1,25 @@
-use mathlib.Core.Path.{_≡_, sym, _∙_}
+use mathlib.Core.Path.{_≡_, sym, _∙_, ap}
 use mathlib.Core.Bool.{true}
-use Prim.Native.Nat.{ℕ, _/_, _*_, _≤_, _^_}
+use Prim.Native.Nat.{ℕ, _/_, _*_, _^_}
 use native.Mathlib.Nat.{mul-le-mul-left}
 use native.Mathlib.Omega.{arith}
 use lib.ListN.{length}
 use borrow.Author.Needs.{needs}
 use borrow.Author.Tests.{not-true, not-false}
 use Rattle.lists.specs.Lists.{over}
+use Rattle.refusal.specs.Refused.{refusedAt}
 use Rattle.refusal.specs.Checks.{isMode, isLead}
-use Rattle.refusal.proofs.Limits.{mode-range}
+use Rattle.refusal.proofs.Limits.{mode-range, mode-tones}
 use Rattle.tone_range.specs.Range.{firstBadTone}
-use Rattle.block_decoder.specs.Decoding.{codesOf, firstUnclear}
+use Rattle.tone_range.proofs.Looks.{bad-found}
+use Rattle.block_decoder.specs.Decoding.{codesOf, unlessUnclear}
 use Rattle.block_decoder.specs.declared.Decoded.the-variants.{Text}
-use Rattle.block_decoder.proofs.Clarity.{text-told, clear-told}
+use Rattle.block_decoder.proofs.Clarity.{text-told, clear-told, refused-alike}
 use Rattle.message_encoder.specs.Blocks.{isWhole}
 use Rattle.message_encoder.proofs.Counts.{whole-blocks, whole-few}
 use Rattle.message_decoder.specs.Decoding.{heardCharacters, messageCharacters}
 use Rattle.message_decoder.proofs.Hearing.{collected-fit, collected-front}
-use Rattle.message_decoder.proofs.DecodeCases.{Passed, refuses-mode, refuses-lead, refuses-count, refuses-room, judges-blocks, text-kept, refusal-told, delivery-told}
-use Rattle.message_decoder.proofs.Refusals.{good-told, text-in-range, refused-too}
+use Rattle.message_decoder.proofs.DecodeCases.{Passed, Hearable, refuses-mode, refuses-lead, refuses-count, refuses-room, refuses-tone, judges, text-kept, refusal-told, delivery-told}
 use Rattle.message_decoder.proofs.decode_within.Statement.{statement}
 use Rattle.message_decoder.proofs.decode_within.Tie as tie
 
@@ -88,36 +89,58 @@ passed c =
     let l = w .before .before in
     record { mode = mode-known (l .before .before); lead = lead-known l; whole = whole-known w; fits = c .if4 .left }
 
+-- the range check is by the mode's count of tones
+range : (c : tie.After-check) → let a = c .before .before .before .before .before .before .before .before .before .before .before .before .args in c .check .result .bad ≡ firstBadTone (2 ^ a .mode) (a .tones .now)
+range c =
+    let t = c .before in
+    let a = t .before .before .before .before .before .before .before .before .before .before .before .args in
+    bad-found _ _ (c .check .ensures) ∙ ap (λ (limit : ℕ). firstBadTone limit (a .tones .now)) (t .tone-count .ensures ∙ mode-tones (a .mode) (passed (t .before) .mode))
+
+hearable : (c : tie.Else5) → let a = c .before .before .before .before .before .before .before .before .before .before .before .before .before .before .args in Hearable (a .limit) (a .mode) (a .least-lead) (a .tones .now) (length (a .text .now))
+hearable c = record { passed = passed (c .before .before .before .before); in-range = rw (range (c .before .before)) at (c .if5 .left) }
+
+tone-count-requires : tie.Need-tone-count-requires
+tone-count-requires c κs = search needs
+
+check-requires : tie.Need-check-requires
+check-requires c κs = search needs
+
+at-requires-5 : tie.Need-at-requires-5
+at-requires-5 c κs = search needs
+
+returns-5 : tie.Need-returns-5
+returns-5 c =
+    let f = c .before .before .before in
+    refusal-told _ _ _ _ _ (c .at5 .ensures ∙ ap (refusedAt 8) (range f)) (refuses-tone _ _ _ _ _ (passed (f .before .before)) (rw (range f) at (c .before .if5 .taken)))
+
 collect-requires : tie.Need-collect-requires
 collect-requires c κs =
-    let s = c .before .before .before .before .before .before .before .before .before .before .before in
+    let s = c .before .before .before .before .before .before .before .before .before .before .before .before .before .before .before in
     let a = s .args in
-    let p = passed (c .before) in
-    let m = mode-range (a .mode) (p .mode) in
-    let whole = whole-blocks (a .limit) (a .mode) (length (a .tones .now)) (p .whole) in
-    let few = whole-few (a .limit) (a .mode) (length (a .tones .now)) (p .whole) (m .0) in
-    ((p .mode, p .lead), (whole, omega (arith, m .1, few, s .pre .1, p .fits)))
+    let h = hearable (c .before) in
+    let m = mode-range (a .mode) (h .passed .mode) in
+    let whole = whole-blocks (a .limit) (a .mode) (length (a .tones .now)) (h .passed .whole) in
+    let few = whole-few (a .limit) (a .mode) (length (a .tones .now)) (h .passed .whole) (m .0) in
+    ((h .passed .mode, h .passed .lead), (whole, (h .in-range, omega (arith, m .1, few, s .pre .1, h .passed .fits))))
+
+-- what was collected, by the message's characters
+judged : (c : tie.After-collect) → let a = c .before .before .before .before .before .before .before .before .before .before .before .before .before .before .before .before .args in
+    c .collect .result ≡ unlessUnclear (a .least-lead) (messageCharacters (a .mode) (a .tones .now)) (Text (length (a .tones .now) / 64 * a .mode))
+unfolding messageCharacters
+judged c = c .collect .ensures .0
 
 -- a refusal leaves the output as it was
-returns-6 : tie.Need-returns-6
-returns-6 c =
+returns-7 : tie.Need-returns-7
+returns-7 c =
     let d = c .before .before .before .before in
     let e = c .enum-told2 .given .1 in
-    let refused = judges-blocks _ _ _ _ _ (passed (d .before .before)) ∙ refused-too _ _ _ _ _ _ (sym (d .collect .ensures .0) ∙ e) in
+    let refused = judges _ _ _ _ _ (hearable (d .before .before)) ∙ refused-alike _ _ _ _ (sym (judged d) ∙ e) in
     (e ∙ sym refused, sym (text-kept _ _ _ _ _ refused))
 
 -- the codes collected from accepted blocks
-accepted : (c : tie.After-collect) {n : ℕ} → c .collect .result ≡ Text n → let a = c .before .before .before .before .before .before .before .before .before .before .before .before .args in
-    (length (a .tones .now) ≤ firstBadTone (2 ^ a .mode) (a .tones .now)) × (length (messageCharacters (a .mode) (a .tones .now)) ≤ firstUnclear (a .least-lead) (messageCharacters (a .mode) (a .tones .now))) × (Text (length (a .tones .now) / 64 * a .mode) ≡ Text n)
-accepted c e =
-    let told = sym (c .collect .ensures .0) ∙ e in
-    let good = text-in-range _ _ _ _ _ told in
-    let clear = text-told _ _ _ _ (sym (good-told _ _ _ _ good) ∙ told) in
-    (good, clear .0, clear .1)
-
-collected : (c : tie.After-collect) {n : ℕ} → c .collect .result ≡ Text n → let a = c .before .before .before .before .before .before .before .before .before .before .before .before .args in
+collected : (c : tie.After-collect) {n : ℕ} → c .collect .result ≡ Text n → let a = c .before .before .before .before .before .before .before .before .before .before .before .before .before .before .before .before .args in
     let count = length (a .tones .now) / 64 in c .collect .last .1 .1 .1 .1 .0 ≡ over (codesOf (heardCharacters (a .mode) (a .tones .now) count)) (a .codes .now)
-collected c e = c .collect .ensures .1 (e ∙ sym (accepted c e .2))
+collected c e = c .collect .ensures .1 (e ∙ sym (text-told _ _ _ _ (sym (judged c) ∙ e) .1))
 
 enum-told : tie.Need-enum-told
 enum-told c = search needs
@@ -132,7 +155,7 @@ part-deliver-end : tie.Need-part-deliver-end
 part-deliver-end c =
     let d = c .before .before .before .before .before in
     let e = c .before .enum-told .given .1 in
-    let a = d .before .before .before .before .before .before .before .before .before .before .before .before .args in
+    let a = d .before .before .before .before .before .before .before .before .before .before .before .before .before .before .before .before .args in
     omega (arith, collected-fit (a .mode) (a .tones .now) (length (a .tones .now) / 64) (d .collect .last .1 .1 .1 .1 .0) _ (collected d e))
 
 deliver-requires : tie.Need-deliver-requires
@@ -150,18 +173,17 @@ same-length-2 c = search needs
 same-length-3 : tie.Need-same-length-3
 same-length-3 c = search needs
 
-returns-5 : tie.Need-returns-5
+returns-6 : tie.Need-returns-6
 unfolding messageCharacters
-returns-5 c =
+returns-6 c =
     let v = c .before .before in
     let t = v .before .before .before .before in
     let d = t .before .before .before .before in
     let e = t .enum-told .given .1 in
-    let a = d .before .before .before .before .before .before .before .before .before .before .before .before .args in
+    let a = d .before .before .before .before .before .before .before .before .before .before .before .before .before .before .before .before .args in
     let codes = collected-front (a .mode) (a .tones .now) (length (a .tones .now) / 64) (d .collect .last .1 .1 .1 .1 .0) _ (collected d e) in
-    let heard = accepted d e in
     delivery-told (a .limit) (a .mode) (a .least-lead) (a .tones .now) (a .text .now) codes
-    (judges-blocks _ _ _ _ _ (passed (d .before .before)) ∙ good-told _ _ _ _ (heard .0) ∙ clear-told _ _ _ (heard .1))
+    (judges _ _ _ _ _ (hearable (d .before .before)) ∙ clear-told _ _ _ (text-told _ _ _ _ (sym (judged d) ∙ e) .0))
     (v .deliver .ensures .0) (v .deliver .ensures .1)
 
 pub decode-within-spec : {M : Type 1} → statement M
@@ -180,6 +202,10 @@ decode-within-spec =
     mul-total
     at-requires-4
     returns-4
+    tone-count-requires
+    check-requires
+    at-requires-5
+    returns-5
     collect-requires
     enum-told
     sub-deliver
@@ -189,6 +215,6 @@ decode-within-spec =
     enum-told-2
     same-length
     same-length-2
-    returns-5
+    returns-6
     same-length-3
-    returns-6)
+    returns-7)

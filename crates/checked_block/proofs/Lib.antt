@@ -1,0 +1,3 @@
+pub mod CheckedTones
+pub mod CheckedCounts
+pub mod Decisions
