@@ -2,5 +2,5 @@ pub mod Signed
 pub mod Signs
 pub mod Butterflies
 pub mod Locals
-pub mod Halves
+pub mod Fours
 pub mod Sizes

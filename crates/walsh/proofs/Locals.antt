@@ -1,7 +1,7 @@
 -- What a signed local reads back: numbers, sums and differences.
 use mathlib.Core.Path.{_≡_, _∙_, ap₂}
 use mathlib.Core.List.{List, [], _∷_}
-use Prim.Native.Nat.{ℕ, zero, suc, _≤_}
+use Prim.Native.Nat.{ℕ, zero, suc, _+_, _≤_}
 use native.Mathlib.Omega.{arith}
 use denote.Array.{each}
 use denote.Signed.{SInt}
@@ -14,12 +14,16 @@ use mir.Facts.{toZ-ofZ}
 use Rattle.lists.specs.Lists.{at}
 use Rattle.lists.proofs.Integers.{abs-add, abs-sub}
 
+-- what a local reads that got z
+abbrev pub kept : ℤ → ℤ
+kept z = toZ w32 (ofZ w32 z)
+
 -- every number of the transform is at most 64 times the magnitude of an i8
 pub fits : (z : ℤ) → natAbs z ≤ 8192 → SFits w32 z
 fits (pos n) h = record { sfits = omega arith }
 fits (negsuc n) h = record { sfits = omega arith }
 
-pub reads : (z : ℤ) → natAbs z ≤ 8192 → toZ w32 (ofZ w32 z) ≡ z
+pub reads : (z : ℤ) → natAbs z ≤ 8192 → kept z ≡ z
 reads z h = toZ-ofZ (fits z h)
 
 -- an element of an array of i8
@@ -29,28 +33,35 @@ each-within (x ∷ xs) [] i p = absurd p
 each-within (x ∷ xs) (u ∷ us) zero p = natAbs-le x (p .0 .1)
 each-within (x ∷ xs) (u ∷ us) (suc i) p = each-within xs us i (p .1)
 
--- ---- the sum and the difference of two numbers of a step
+-- ---- sums and differences
 
-module _ (a b : ℤ) (ha : natAbs a ≤ 4096) (hb : natAbs b ≤ 4096) where
-  reads-a : toZ w32 (ofZ w32 a) ≡ a
-  reads-a = reads a (omega arith)
+-- a local that got u reads a, which is at most n in magnitude
+pub record Holds (u a : ℤ) (n : ℕ) : Type 0 where
+  pub value : kept u ≡ a
+  pub size : natAbs a ≤ n
 
-  reads-b : toZ w32 (ofZ w32 b) ≡ b
-  reads-b = reads b (omega arith)
+pub holds-itself : (z : ℤ) → natAbs z ≤ 2048 → Holds z z 2048
+holds-itself z h = record { value = reads z (omega arith); size = h }
 
-  pub sum-fits : SFits w32 (toZ w32 (ofZ w32 a) +ℤ toZ w32 (ofZ w32 b))
-  sum-fits = rw (reads-a, reads-b) (fits (a +ℤ b) (omega (arith, abs-add a b)))
+module _ {u v a b : ℤ} {n : ℕ} (p : Holds u a n) (q : Holds v b n) (small : n ≤ 4096) where
+  sum-fits : SFits w32 (kept u +ℤ kept v)
+  sum-fits = rw (p .value, q .value) (fits (a +ℤ b) (omega (arith, abs-add a b, p .size, q .size)))
 
-  pub sum-reads : toZ w32 (ofZ w32 (toZ w32 (ofZ w32 a) +ℤ toZ w32 (ofZ w32 b))) ≡ a +ℤ b
-  sum-reads = toZ-ofZ sum-fits ∙ ap₂ (λ (x y : ℤ). x +ℤ y) reads-a reads-b
+  pub sum-holds : Holds (kept u +ℤ kept v) (a +ℤ b) (n + n)
+  sum-holds = record {
+    value = toZ-ofZ sum-fits ∙ ap₂ (λ (x y : ℤ). x +ℤ y) (p .value) (q .value);
+    size = omega (arith, abs-add a b, p .size, q .size);
+  }
 
-  pub difference-fits : SFits w32 (toZ w32 (ofZ w32 a) -ℤ toZ w32 (ofZ w32 b))
-  difference-fits = rw (reads-a, reads-b) (fits (a -ℤ b) (omega (arith, abs-sub a b)))
+  difference-fits : SFits w32 (kept u -ℤ kept v)
+  difference-fits = rw (p .value, q .value) (fits (a -ℤ b) (omega (arith, abs-sub a b, p .size, q .size)))
 
-  pub difference-reads : toZ w32 (ofZ w32 (toZ w32 (ofZ w32 a) -ℤ toZ w32 (ofZ w32 b))) ≡ a -ℤ b
-  difference-reads = toZ-ofZ difference-fits ∙ ap₂ (λ (x y : ℤ). x -ℤ y) reads-a reads-b
+  pub difference-holds : Holds (kept u -ℤ kept v) (a -ℤ b) (n + n)
+  difference-holds = record {
+    value = toZ-ofZ difference-fits ∙ ap₂ (λ (x y : ℤ). x -ℤ y) (p .value) (q .value);
+    size = omega (arith, abs-sub a b, p .size, q .size);
+  }
 
--- in either order
-pub differences-fit : (a b : ℤ) → natAbs a ≤ 4096 → natAbs b ≤ 4096
-    → SFits w32 (toZ w32 (ofZ w32 b) -ℤ toZ w32 (ofZ w32 a)) × SFits w32 (toZ w32 (ofZ w32 a) -ℤ toZ w32 (ofZ w32 b))
-differences-fit a b ha hb = (difference-fits b a hb ha, difference-fits a b ha hb)
+-- the sum, and the difference in either order
+pub all-fit : {u v a b : ℤ} {n : ℕ} → Holds u a n → Holds v b n → n ≤ 4096 → SFits w32 (kept u +ℤ kept v) × SFits w32 (kept u -ℤ kept v) × SFits w32 (kept v -ℤ kept u)
+all-fit p q small = (sum-fits p q small, difference-fits p q small, difference-fits q p small)

@@ -2,7 +2,7 @@
 use mathlib.Core.Path.{_≡_, refl, sym}
 use mathlib.Core.Bool.{Bool, true, false}
 use Prim.Native.Nat.{ℕ}
-use lib.IntN.{ℤ, pos, negℤ, natAbs, _+ℤ_, _-ℤ_, negℤ-negℤ, negℤ-+ℤ}
+use lib.IntN.{ℤ, pos, negℤ, natAbs, _-ℤ_, negℤ-negℤ, negℤ-+ℤ}
 use Rattle.lists.specs.Sums.{sum}
 use Rattle.lists.proofs.Integers.{abs-neg}
 use Rattle.lists.proofs.Sums.{sum-neg}
@@ -11,10 +11,6 @@ use Rattle.walsh.specs.Words.{signed, turned}
 pub abs-signed : (s : Bool) (x : ℤ) → natAbs (signed s x) ≡ natAbs x
 abs-signed true x = abs-neg x
 abs-signed false x = refl
-
-pub signed-add : (s : Bool) (x y : ℤ) → signed s (x +ℤ y) ≡ signed s x +ℤ signed s y
-signed-add true x y = negℤ-+ℤ x y
-signed-add false x y = refl
 
 pub signed-sub : (s : Bool) (x y : ℤ) → signed s (x -ℤ y) ≡ signed s x -ℤ signed s y
 signed-sub true x y = negℤ-+ℤ x (negℤ y)

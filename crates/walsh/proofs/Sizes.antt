@@ -1,7 +1,8 @@
 -- How large the numbers of the transform are, and that its steps are the butterflies.
 use mathlib.Core.Path.{_≡_, refl, sym, _∙_, ap, ap₂}
 use mathlib.Core.List.{List}
-use Prim.Native.Nat.{ℕ, zero, suc, _+_, _*_, _-_, _<_, _≤_}
+use mathlib.Core.Logic.{⊎-elim}
+use Prim.Native.Nat.{ℕ, zero, suc, _+_, _*_, _<_, _≤_, _/_}
 use native.Mathlib.Decide.{decLt}
 use native.Mathlib.Nat.{le-trans}
 use native.Mathlib.Omega.{arith}
@@ -16,20 +17,23 @@ use Rattle.walsh.specs.Words.{minus, signed, corr, correlationsOf}
 use Rattle.walsh.specs.Transform.{butterfly, butterflies}
 use Rattle.walsh.specs.Internal.{stepOf, Within}
 use Rattle.walsh.proofs.Signed.{abs-signed}
-use Rattle.walsh.proofs.Butterflies.{butterfly-low, butterfly-high, transform}
+use Rattle.walsh.proofs.Butterflies.{butterfly-even, butterfly-odd, transform}
+use Rattle.walsh.proofs.Signs.{lowest-digit}
 
 pub upto : {b : ℕ} (B : ℕ) {x : List ℤ} → Within b x → T (leb b B) → Within B x
 upto {b} B w t = record { within = λ i. le-trans (w .within i) (leb→le b B t) }
 
--- by which half of the places i is in
-butterfly-cases : (P : ℤ → Type 0) (x : ℕ → ℤ) (i : ℕ) → (i < 32 → P (x (2 * i) +ℤ x (2 * i + 1))) → ((j : ℕ) → i ≡ j + 32 → P (x (2 * j + 1) -ℤ x (2 * j))) → P (butterfly x i)
-butterfly-cases P x i f g = by (decLt i 32)
-  where
-    by : Dec (i < 32) → P (butterfly x i)
-    by (yes l) = rw (butterfly-low x i l) (f l)
-    by (no n) =
-        let e : i ≡ i - 32 + 32 = omega arith in
-        rw (e, butterfly-high x (i - 32)) (g (i - 32) e)
+-- by whether place i has a sum or a difference
+butterfly-cases : (P : ℤ → Type 0) (x : ℕ → ℤ) (i : ℕ) → ((j : ℕ) → i ≡ 2 * j → P (x j +ℤ x (j + 32))) → ((j : ℕ) → i ≡ 2 * j + 1 → P (x (j + 32) -ℤ x j)) → P (butterfly x i)
+butterfly-cases P x i f g =
+    ⊎-elim
+    (λ p.
+    let e : i ≡ 2 * (i / 2) = omega arith in
+    rw (ap (butterfly x) e ∙ butterfly-even x (i / 2)) (f (i / 2) e))
+    (λ p.
+    let e : i ≡ 2 * (i / 2) + 1 = omega arith in
+    rw (ap (butterfly x) e ∙ butterfly-odd x (i / 2)) (g (i / 2) e))
+    (lowest-digit i)
 
 pub tab-within : (b : ℕ) (f : ℕ → ℤ) → ((i : ℕ) → natAbs (f i) ≤ b) → Within b (tab f 64)
 tab-within b f h = record { within = λ i. by i (decLt i 64) }
@@ -40,14 +44,16 @@ tab-within b f h = record { within = λ i. by i (decLt i 64) }
         omega (arith, ap natAbs (List·getD-eq-default (tab f 64) (pos 0) {n = i} (let e : length (tab f 64) ≤ i = omega (arith, tab-length f 64) in e)))
 
 -- a step at most doubles the magnitudes
-pub step-within : {b : ℕ} {x r : List ℤ} → Within b x → r ≡ stepOf x → Within (b + b) r
+step-within : {b : ℕ} {x : List ℤ} → Within b x → Within (b + b) (stepOf x)
 unfolding stepOf
-step-within {b} {x} w e =
-    rw e
-    (tab-within (b + b) (butterfly (at x)) (λ i.
+step-within {b} {x} w =
+    tab-within (b + b) (butterfly (at x)) (λ i.
     butterfly-cases (λ z. natAbs z ≤ b + b) (at x) i
-    (λ l. omega (arith, abs-add (at x (2 * i)) (at x (2 * i + 1)), w .within (2 * i), w .within (2 * i + 1)))
-    (λ j q. omega (arith, abs-sub (at x (2 * j + 1)) (at x (2 * j)), w .within (2 * j), w .within (2 * j + 1)))))
+    (λ j e. omega (arith, abs-add (at x j) (at x (j + 32)), w .within j, w .within (j + 32)))
+    (λ j e. omega (arith, abs-sub (at x (j + 32)) (at x j), w .within j, w .within (j + 32))))
+
+pub two-within : {b : ℕ} {x r : List ℤ} → Within b x → r ≡ stepOf (stepOf x) → Within (b + b + (b + b)) r
+two-within w e = rw e (step-within (step-within w))
 
 pub corr-within : (N : ℕ) (h : ℕ → ℤ) (c : ℕ) → ((t : ℕ) → t < 64 → natAbs (h t) ≤ N) → natAbs (corr h c) ≤ 64 * N
 unfolding corr
@@ -66,22 +72,22 @@ correlations-within {b} x w = tab-within (64 * b) (corr (at x)) (λ c. corr-with
 
 unfoldable pub steps : ℕ → List ℤ → List ℤ
 steps zero x = x
-steps (suc k) x = steps k (stepOf x)
+steps (suc k) x = stepOf (steps k x)
 
 butterfly-ext : (x y : ℕ → ℤ) → ((i : ℕ) → i < 64 → x i ≡ y i) → (i : ℕ) → i < 64 → butterfly x i ≡ butterfly y i
 butterfly-ext x y h i l =
     butterfly-cases (λ z. z ≡ butterfly y i) x i
-    (λ g. ap₂ (λ (a b : ℤ). a +ℤ b) (h (2 * i) (omega arith)) (h (2 * i + 1) (omega arith)) ∙ sym (butterfly-low y i g))
-    (λ j e. ap₂ (λ (a b : ℤ). a -ℤ b) (h (2 * j + 1) (omega arith)) (h (2 * j) (omega arith)) ∙ sym (butterfly-high y j) ∙ ap (butterfly y) (sym e))
+    (λ j e. ap₂ (λ (a b : ℤ). a +ℤ b) (h j (omega arith)) (h (j + 32) (omega arith)) ∙ sym (butterfly-even y j) ∙ ap (butterfly y) (sym e))
+    (λ j e. ap₂ (λ (a b : ℤ). a -ℤ b) (h (j + 32) (omega arith)) (h j (omega arith)) ∙ sym (butterfly-odd y j) ∙ ap (butterfly y) (sym e))
 
-steps-butterflies : (k : ℕ) (x : List ℤ) (f : ℕ → ℤ) → ((i : ℕ) → i < 64 → at x i ≡ f i) → (i : ℕ) → i < 64 → at (steps k x) i ≡ butterflies k f i
+steps-butterflies : (k : ℕ) (x : List ℤ) (i : ℕ) → i < 64 → at (steps k x) i ≡ butterflies k (at x) i
 unfolding steps stepOf butterflies
-steps-butterflies zero x f h i l = h i l
-steps-butterflies (suc k) x f h i l =
-    steps-butterflies k (stepOf x) (butterfly f) (λ j g. tab-at (butterfly (at x)) (pos 0) 64 j g ∙ butterfly-ext (at x) f h j g) i l
+steps-butterflies zero x i l = refl
+steps-butterflies (suc k) x i l =
+    tab-at (butterfly (at (steps k x))) (pos 0) 64 i l ∙ butterfly-ext (at (steps k x)) (butterflies k (at x)) (steps-butterflies k x) i l
 
 pub six-steps : (x : List ℤ) → steps 6 x ≡ correlationsOf (at x)
 unfolding steps stepOf correlationsOf
 six-steps x =
     is-tab (corr (at x)) (pos 0) 64 (steps 6 x) (tab-length _ 64)
-    (λ c l. steps-butterflies 6 x (at x) (λ i g. refl) c l ∙ transform .six-steps (at x) c l)
+    (λ c l. steps-butterflies 6 x c l ∙ transform .six-steps (at x) c l)
