@@ -1,17 +1,28 @@
 -- Two steps at once: what they make of the four numbers at i, i + 16, i + 32 and i + 48, and a turn of the loop that writes it.
-use mathlib.Core.Path.{_≡_, _∙_, ap, ap₂}
+use mathlib.Core.Path.{_≡_, sym, _∙_, ap, ap₂}
 use mathlib.Core.List.{List}
 use Prim.Native.Nat.{ℕ, _+_, _*_, _<_, _≤_}
 use native.Mathlib.Omega.{arith}
-use lib.IntN.{ℤ, pos, _+ℤ_, _-ℤ_}
+use lib.IntN.{ℤ, pos, negℤ, _+ℤ_, _-ℤ_, negℤ-+ℤ}
 use lib.ListN.{length, set}
 use Rattle.lists.specs.Lists.{tab, at, over}
 use Rattle.lists.proofs.Fronts.{over-set}
+use Rattle.lists.proofs.Integers.{add-cross}
 use Rattle.lists.proofs.Tables.{tab-at}
 use Rattle.walsh.specs.Transform.{butterfly}
 use Rattle.walsh.specs.Internal.{stepOf, Within}
 use Rattle.walsh.proofs.Locals.{kept, Holds, holds-itself, sum-holds, difference-holds}
 use Rattle.walsh.proofs.Butterflies.{butterfly-even, butterfly-odd}
+
+-- ---- sums and differences of pairs, taken the other way round
+
+sub-cross : (a b c d : ℤ) → (a +ℤ b) -ℤ (c +ℤ d) ≡ (a -ℤ c) +ℤ (b -ℤ d)
+sub-cross a b c d = ap (λ (z : ℤ). (a +ℤ b) +ℤ z) (negℤ-+ℤ c d) ∙ add-cross a b (negℤ c) (negℤ d)
+
+differences-cross : (a b c d : ℤ) → (a -ℤ b) -ℤ (c -ℤ d) ≡ (a -ℤ c) -ℤ (b -ℤ d)
+differences-cross a b c d = sub-cross a (negℤ b) c (negℤ d) ∙ ap (λ (z : ℤ). (a -ℤ c) +ℤ z) (sym (negℤ-+ℤ b (negℤ d)))
+
+-- ---- the four numbers that two steps make
 
 module _ (x : List ℤ) (i : ℕ) (h : i < 16) where
   step-at : (j : ℕ) → j < 64 → at (stepOf x) j ≡ butterfly (at x) j
@@ -36,19 +47,27 @@ module _ (x : List ℤ) (i : ℕ) (h : i < 16) where
       let far : i + 16 + 32 ≡ i + 48 = omega arith in
       rw e (step-at (2 * (i + 16) + 1) (omega arith) ∙ rw far at (butterfly-odd (at x) (i + 16)))
 
-  pub first-of-four : butterfly (at (stepOf x)) (4 * i) ≡ (at x i +ℤ at x (i + 32)) +ℤ (at x (i + 16) +ℤ at x (i + 48))
-  first-of-four = ap (butterfly (at (stepOf x))) (omega arith) ∙ butterfly-even (at (stepOf x)) (2 * i) ∙ ap₂ (λ (a b : ℤ). a +ℤ b) sum-at other-sum-at
+  pub first-of-four : (at x i +ℤ at x (i + 16)) +ℤ (at x (i + 32) +ℤ at x (i + 48)) ≡ butterfly (at (stepOf x)) (4 * i)
+  first-of-four =
+      add-cross (at x i) (at x (i + 16)) (at x (i + 32)) (at x (i + 48))
+      ∙ sym (ap (butterfly (at (stepOf x))) (omega arith) ∙ butterfly-even (at (stepOf x)) (2 * i) ∙ ap₂ (λ (a b : ℤ). a +ℤ b) sum-at other-sum-at)
 
-  pub second-of-four : butterfly (at (stepOf x)) (4 * i + 1) ≡ (at x (i + 16) +ℤ at x (i + 48)) -ℤ (at x i +ℤ at x (i + 32))
-  second-of-four = ap (butterfly (at (stepOf x))) (omega arith) ∙ butterfly-odd (at (stepOf x)) (2 * i) ∙ ap₂ (λ (a b : ℤ). a -ℤ b) other-sum-at sum-at
+  pub second-of-four : (at x (i + 16) -ℤ at x i) +ℤ (at x (i + 48) -ℤ at x (i + 32)) ≡ butterfly (at (stepOf x)) (4 * i + 1)
+  second-of-four =
+      sym (sub-cross (at x (i + 16)) (at x (i + 48)) (at x i) (at x (i + 32)))
+      ∙ sym (ap (butterfly (at (stepOf x))) (omega arith) ∙ butterfly-odd (at (stepOf x)) (2 * i) ∙ ap₂ (λ (a b : ℤ). a -ℤ b) other-sum-at sum-at)
 
-  pub third-of-four : butterfly (at (stepOf x)) (4 * i + 2) ≡ (at x (i + 32) -ℤ at x i) +ℤ (at x (i + 48) -ℤ at x (i + 16))
-  third-of-four = ap (butterfly (at (stepOf x))) (omega arith) ∙ butterfly-even (at (stepOf x)) (2 * i + 1) ∙ ap₂ (λ (a b : ℤ). a +ℤ b) difference-at other-difference-at
+  pub third-of-four : (at x (i + 32) +ℤ at x (i + 48)) -ℤ (at x i +ℤ at x (i + 16)) ≡ butterfly (at (stepOf x)) (4 * i + 2)
+  third-of-four =
+      sub-cross (at x (i + 32)) (at x (i + 48)) (at x i) (at x (i + 16))
+      ∙ sym (ap (butterfly (at (stepOf x))) (omega arith) ∙ butterfly-even (at (stepOf x)) (2 * i + 1) ∙ ap₂ (λ (a b : ℤ). a +ℤ b) difference-at other-difference-at)
 
-  pub fourth-of-four : butterfly (at (stepOf x)) (4 * i + 3) ≡ (at x (i + 48) -ℤ at x (i + 16)) -ℤ (at x (i + 32) -ℤ at x i)
-  fourth-of-four = ap (butterfly (at (stepOf x))) (omega arith) ∙ butterfly-odd (at (stepOf x)) (2 * i + 1) ∙ ap₂ (λ (a b : ℤ). a -ℤ b) other-difference-at difference-at
+  pub fourth-of-four : (at x (i + 48) -ℤ at x (i + 32)) -ℤ (at x (i + 16) -ℤ at x i) ≡ butterfly (at (stepOf x)) (4 * i + 3)
+  fourth-of-four =
+      differences-cross (at x (i + 48)) (at x (i + 32)) (at x (i + 16)) (at x i)
+      ∙ sym (ap (butterfly (at (stepOf x))) (omega arith) ∙ butterfly-odd (at (stepOf x)) (2 * i + 1) ∙ ap₂ (λ (a b : ℤ). a -ℤ b) other-difference-at difference-at)
 
--- ---- what the locals hold after the first step
+-- ---- what the locals hold
 
 module _ (x : List ℤ) (w : Within 2048 x) where
   pub number : (j : ℕ) → Holds (at x j) (at x j) 2048

@@ -41,9 +41,8 @@ fn widened(counts: [i8; 64]) -> [i32; 64]
     x
 }
 
-// Two steps of the transform at once, the same all three times: the constant geometry form. They are made of the four numbers 16 places
-// apart, which are read in rows and written side by side. A count is at most 128 in magnitude and a step at most doubles that, so all six
-// stay within 64 * 128.
+// Two steps of the transform at once, the same all three times: the constant geometry form. Four numbers, 16 places apart, become four that
+// stand side by side. A count is at most 128 in magnitude and a step at most doubles that, so all six stay within 64 * 128.
 fn two_steps(x: [i32; 64]) -> [i32; 64]
     requires { ⌜ Within 2048 x ⌝ }
     ensures { λ r. ⌜ r ≡ stepOf (stepOf x) ⌝ }
@@ -55,14 +54,14 @@ fn two_steps(x: [i32; 64]) -> [i32; 64]
         let second = x[i + 16];
         let third = x[i + 32];
         let fourth = x[i + 48];
-        let sum = first + third;
-        let difference = third - first;
-        let other_sum = second + fourth;
-        let other_difference = fourth - second;
-        y[4 * i] = sum + other_sum;
-        y[4 * i + 1] = other_sum - sum;
-        y[4 * i + 2] = difference + other_difference;
-        y[4 * i + 3] = other_difference - difference;
+        let low_sum = first + second;
+        let low_difference = second - first;
+        let high_sum = third + fourth;
+        let high_difference = fourth - third;
+        y[4 * i] = low_sum + high_sum;
+        y[4 * i + 1] = low_difference + high_difference;
+        y[4 * i + 2] = high_sum - low_sum;
+        y[4 * i + 3] = high_difference - low_difference;
         i += 1;
     }
     y

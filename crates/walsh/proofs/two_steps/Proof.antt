@@ -1,4 +1,4 @@
-use mathlib.Core.Path.{_≡_, sym, _∙_}
+use mathlib.Core.Path.{_≡_, _∙_}
 use Prim.Native.Nat.{_+_, _*_, _-_, _<_, _≤_}
 use native.Mathlib.Omega.{arith}
 use borrow.Author.Needs.{needs}
@@ -56,39 +56,39 @@ mul-fourth c = search needs
 array-copy-out-fourth : tie.Need-array-copy-out-fourth Inv-loop μ-loop
 array-copy-out-fourth c = search needs
 
-add-sum : tie.Need-add-sum Inv-loop μ-loop
-add-sum c =
+add-low-sum : tie.Need-add-low-sum Inv-loop μ-loop
+add-low-sum c =
     let l = c .before .before .before .before .before in
     let s = l .before in
-    let fit = all-fit (number (s .args .t1) (s .pre) (l .loop .i)) (number (s .args .t1) (s .pre) (l .loop .i + 32)) (omega arith) in
+    let fit = all-fit (number (s .args .t1) (s .pre) (l .loop .i)) (number (s .args .t1) (s .pre) (l .loop .i + 16)) (omega arith) in
     search fit
 
-sub-difference : tie.Need-sub-difference Inv-loop μ-loop
-sub-difference c =
+sub-low-difference : tie.Need-sub-low-difference Inv-loop μ-loop
+sub-low-difference c =
     let l = c .before .before .before .before .before in
     let s = l .before in
-    let fit = all-fit (number (s .args .t1) (s .pre) (l .loop .i)) (number (s .args .t1) (s .pre) (l .loop .i + 32)) (omega arith) in
+    let fit = all-fit (number (s .args .t1) (s .pre) (l .loop .i)) (number (s .args .t1) (s .pre) (l .loop .i + 16)) (omega arith) in
     search fit
 
-add-other-sum : tie.Need-add-other-sum Inv-loop μ-loop
-add-other-sum c =
+add-high-sum : tie.Need-add-high-sum Inv-loop μ-loop
+add-high-sum c =
     let l = c .before .before .before .before .before in
     let s = l .before in
-    let fit = all-fit (number (s .args .t1) (s .pre) (l .loop .i + 16)) (number (s .args .t1) (s .pre) (l .loop .i + 48)) (omega arith) in
+    let fit = all-fit (number (s .args .t1) (s .pre) (l .loop .i + 32)) (number (s .args .t1) (s .pre) (l .loop .i + 48)) (omega arith) in
     search fit
 
-sub-other-difference : tie.Need-sub-other-difference Inv-loop μ-loop
-sub-other-difference c =
+sub-high-difference : tie.Need-sub-high-difference Inv-loop μ-loop
+sub-high-difference c =
     let l = c .before .before .before .before .before in
     let s = l .before in
-    let fit = all-fit (number (s .args .t1) (s .pre) (l .loop .i + 16)) (number (s .args .t1) (s .pre) (l .loop .i + 48)) (omega arith) in
+    let fit = all-fit (number (s .args .t1) (s .pre) (l .loop .i + 32)) (number (s .args .t1) (s .pre) (l .loop .i + 48)) (omega arith) in
     search fit
 
 add-y : tie.Need-add-y Inv-loop μ-loop
 add-y c =
     let l = c .before .before .before .before .before in
     let s = l .before in
-    let fit = all-fit (added (s .args .t1) (s .pre) (l .loop .i) (l .loop .i + 32)) (added (s .args .t1) (s .pre) (l .loop .i + 16) (l .loop .i + 48)) (omega arith) in
+    let fit = all-fit (added (s .args .t1) (s .pre) (l .loop .i) (l .loop .i + 16)) (added (s .args .t1) (s .pre) (l .loop .i + 32) (l .loop .i + 48)) (omega arith) in
     search fit
 
 mul-y : tie.Need-mul-y Inv-loop μ-loop
@@ -100,18 +100,18 @@ mul-y-2 c = search needs
 array-set-from-y : tie.Need-array-set-from-y Inv-loop μ-loop
 array-set-from-y c = search needs
 
-sub-y : tie.Need-sub-y Inv-loop μ-loop
-sub-y c =
+add-y-2 : tie.Need-add-y-2 Inv-loop μ-loop
+add-y-2 c =
     let l = c .before .before .before .before .before in
     let s = l .before in
-    let fit = all-fit (added (s .args .t1) (s .pre) (l .loop .i) (l .loop .i + 32)) (added (s .args .t1) (s .pre) (l .loop .i + 16) (l .loop .i + 48)) (omega arith) in
+    let fit = all-fit (subtracted (s .args .t1) (s .pre) (l .loop .i + 16) (l .loop .i)) (subtracted (s .args .t1) (s .pre) (l .loop .i + 48) (l .loop .i + 32)) (omega arith) in
     search fit
 
 mul-y-3 : tie.Need-mul-y-3 Inv-loop μ-loop
 mul-y-3 c = search needs
 
-add-y-2 : tie.Need-add-y-2 Inv-loop μ-loop
-add-y-2 c = search needs
+add-y-3 : tie.Need-add-y-3 Inv-loop μ-loop
+add-y-3 c = search needs
 
 mul-y-4 : tie.Need-mul-y-4 Inv-loop μ-loop
 mul-y-4 c = search needs
@@ -119,11 +119,11 @@ mul-y-4 c = search needs
 array-set-from-y-2 : tie.Need-array-set-from-y-2 Inv-loop μ-loop
 array-set-from-y-2 c = search needs
 
-add-y-3 : tie.Need-add-y-3 Inv-loop μ-loop
-add-y-3 c =
+sub-y : tie.Need-sub-y Inv-loop μ-loop
+sub-y c =
     let l = c .before .before .before .before .before in
     let s = l .before in
-    let fit = all-fit (subtracted (s .args .t1) (s .pre) (l .loop .i + 32) (l .loop .i)) (subtracted (s .args .t1) (s .pre) (l .loop .i + 48) (l .loop .i + 16)) (omega arith) in
+    let fit = all-fit (added (s .args .t1) (s .pre) (l .loop .i) (l .loop .i + 16)) (added (s .args .t1) (s .pre) (l .loop .i + 32) (l .loop .i + 48)) (omega arith) in
     search fit
 
 mul-y-5 : tie.Need-mul-y-5 Inv-loop μ-loop
@@ -142,7 +142,7 @@ sub-y-2 : tie.Need-sub-y-2 Inv-loop μ-loop
 sub-y-2 c =
     let l = c .before .before .before .before .before in
     let s = l .before in
-    let fit = all-fit (subtracted (s .args .t1) (s .pre) (l .loop .i + 32) (l .loop .i)) (subtracted (s .args .t1) (s .pre) (l .loop .i + 48) (l .loop .i + 16)) (omega arith) in
+    let fit = all-fit (subtracted (s .args .t1) (s .pre) (l .loop .i + 16) (l .loop .i)) (subtracted (s .args .t1) (s .pre) (l .loop .i + 48) (l .loop .i + 32)) (omega arith) in
     search fit
 
 mul-y-7 : tie.Need-mul-y-7 Inv-loop μ-loop
@@ -168,18 +168,18 @@ loop-again c =
     let s = c .before .before .before .before .before .before in
     let l = c .before .before .before .before .before .loop in
     let x = s .args .t1 in
-    let sums = added x (s .pre) (l .i) (l .i + 32) in
-    let other-sums = added x (s .pre) (l .i + 16) (l .i + 48) in
-    let differences = subtracted x (s .pre) (l .i + 32) (l .i) in
-    let other-differences = subtracted x (s .pre) (l .i + 48) (l .i + 16) in
+    let low-sum = added x (s .pre) (l .i) (l .i + 16) in
+    let low-difference = subtracted x (s .pre) (l .i + 16) (l .i) in
+    let high-sum = added x (s .pre) (l .i + 32) (l .i + 48) in
+    let high-difference = subtracted x (s .pre) (l .i + 48) (l .i + 32) in
     let more : l .i < 16 = omega arith in
     let next : 4 * l .i + 4 ≡ 4 * (l .i + 1) = omega arith in (
       omega arith,
       rw next at (four-more (butterfly (at (stepOf x))) (4 * l .i) (replicate 64 (pos 0)) (l .y) _ _ _ _ (omega arith) (l .inv .1)
-          (sum-holds sums other-sums (omega arith) .value ∙ sym (first-of-four x (l .i) more))
-          (difference-holds other-sums sums (omega arith) .value ∙ sym (second-of-four x (l .i) more))
-          (sum-holds differences other-differences (omega arith) .value ∙ sym (third-of-four x (l .i) more))
-          (difference-holds other-differences differences (omega arith) .value ∙ sym (fourth-of-four x (l .i) more))),
+          (sum-holds low-sum high-sum (omega arith) .value ∙ first-of-four x (l .i) more)
+          (sum-holds low-difference high-difference (omega arith) .value ∙ second-of-four x (l .i) more)
+          (difference-holds high-sum low-sum (omega arith) .value ∙ third-of-four x (l .i) more)
+          (difference-holds high-difference low-difference (omega arith) .value ∙ fourth-of-four x (l .i) more)),
     )
 
 returns : tie.Need-returns Inv-loop μ-loop
@@ -207,20 +207,20 @@ two-steps-spec =
     add-fourth
     mul-fourth
     array-copy-out-fourth
-    add-sum
-    sub-difference
-    add-other-sum
-    sub-other-difference
+    add-low-sum
+    sub-low-difference
+    add-high-sum
+    sub-high-difference
     add-y
     mul-y
     mul-y-2
     array-set-from-y
-    sub-y
-    mul-y-3
     add-y-2
+    mul-y-3
+    add-y-3
     mul-y-4
     array-set-from-y-2
-    add-y-3
+    sub-y
     mul-y-5
     add-y-4
     mul-y-6
