@@ -83,7 +83,7 @@ returns c =
     let d = l .before in
     let a = d .before .before .before .before .before .before .before .before .before .before .args in
     let inside = c .before .before .before .before .loop-test .taken in
-    let here = sym (l .loop .inv .2) ∙ scan-hit _ (l .loop .q) _ inside (lt-ltb _ _ (c .before .if1 .taken)) in
+    let here = sym (l .loop .inv .2) ∙ scan-hit _ (l .loop .q) _ inside (lt-ltb (leadIn (d .decide-symbols .result) (l .loop .q)) (a .least-lead) (c .before .if1 .taken)) in
     (ap Refused (c .unclear .ensures) ∙ sym (unclear-told (a .mode) (a .least-lead) _ (d .decide-symbols .result) (found d) (l .loop .q) inside here), refl)
 
 add-q : tie.Need-add-q Inv-loop μ-loop Inv-loop2 μ-loop2

@@ -97,7 +97,7 @@ range c =
     bad-found _ _ (c .check .ensures) ∙ ap (λ (limit : ℕ). firstBadTone limit (a .tones .now)) (t .tone-count .ensures ∙ mode-tones (a .mode) (passed (t .before) .mode))
 
 hearable : (c : tie.Else5) → let a = c .before .before .before .before .before .before .before .before .before .before .before .before .before .before .args in Hearable (a .limit) (a .mode) (a .least-lead) (a .tones .now) (length (a .text .now))
-hearable c = record { passed = passed (c .before .before .before .before); in-range = rw (range (c .before .before)) at (c .if5 .left) }
+hearable c = record { passed = passed (c .before .before .before .before); in-range = omega (arith, range (c .before .before), c .if5 .left) }
 
 tone-count-requires : tie.Need-tone-count-requires
 tone-count-requires c κs = search needs
@@ -111,7 +111,7 @@ at-requires-5 c κs = search needs
 returns-5 : tie.Need-returns-5
 returns-5 c =
     let f = c .before .before .before in
-    refusal-told _ _ _ _ _ (c .at5 .ensures ∙ ap (refusedAt 8) (range f)) (refuses-tone _ _ _ _ _ (passed (f .before .before)) (rw (range f) at (c .before .if5 .taken)))
+    refusal-told _ _ _ _ _ (c .at5 .ensures ∙ ap (refusedAt 8) (range f)) (refuses-tone _ _ _ _ _ (passed (f .before .before)) (omega (arith, range f, c .before .if5 .taken)))
 
 collect-requires : tie.Need-collect-requires
 collect-requires c κs =
