@@ -37,7 +37,7 @@ pub fn decode(mode: u32, least_lead: u32, tones: &[u16], codes: &mut [u8]) -> De
     decide(mode, least_lead, tones, codes)
 }
 
-// Decides the characters. Both loops read them where they stand: handed to a function, they would be copied.
+// Decides the characters. Both loops stand here, since functions that are handed the characters take more instructions.
 fn decide(mode: u32, least_lead: u32, tones: &[u16], codes: &mut [u8]) -> Decoded
     requires { ⌜ (isMode mode ≡ true) × (length (now tones) ≡ 64) × (mode ≤ length (now codes)) ⌝ }
     ensures answer { λ r. ⌜ r ≡ unlessUnclear «least_lead» (charactersOf mode (tonesBelow (2 ^ mode) (now (tones .entry)))) (Text mode) ⌝ }

@@ -11,7 +11,7 @@ use Rattle.lists.proofs.Integers.{add-cross}
 use Rattle.lists.proofs.Tables.{tab-at}
 use Rattle.walsh.specs.Transform.{butterfly}
 use Rattle.walsh.specs.Internal.{stepOf, Within}
-use Rattle.walsh.proofs.Locals.{kept, Holds, holds-itself, sum-holds, difference-holds}
+use Rattle.walsh.proofs.Locals.{kept, Holds, holds-itself, sum-holds, difference-holds, AllFit, all-fit}
 use Rattle.walsh.proofs.Butterflies.{butterfly-even, butterfly-odd}
 
 -- ---- sums and differences of pairs, taken the other way round
@@ -70,7 +70,7 @@ module _ (x : List ℤ) (i : ℕ) (h : i < 16) where
 -- ---- what the locals hold
 
 module _ (x : List ℤ) (w : Within 2048 x) where
-  pub number : (j : ℕ) → Holds (at x j) (at x j) 2048
+  number : (j : ℕ) → Holds (at x j) (at x j) 2048
   number j = holds-itself (at x j) (w .within j)
 
   pub added : (j k : ℕ) → Holds (kept (at x j) +ℤ kept (at x k)) (at x j +ℤ at x k) 4096
@@ -78,6 +78,21 @@ module _ (x : List ℤ) (w : Within 2048 x) where
 
   pub subtracted : (j k : ℕ) → Holds (kept (at x j) -ℤ kept (at x k)) (at x j -ℤ at x k) 4096
   subtracted j k = difference-holds (number j) (number k) (omega arith)
+
+-- whatever is added or subtracted, the outcome fits
+pub record FourFit (x : List ℤ) (i : ℕ) : Type 0 where
+  pub low : AllFit (at x i) (at x (i + 16))
+  pub high : AllFit (at x (i + 32)) (at x (i + 48))
+  pub sums : AllFit (kept (at x i) +ℤ kept (at x (i + 16))) (kept (at x (i + 32)) +ℤ kept (at x (i + 48)))
+  pub differences : AllFit (kept (at x (i + 16)) -ℤ kept (at x i)) (kept (at x (i + 48)) -ℤ kept (at x (i + 32)))
+
+pub four-fit : (x : List ℤ) → Within 2048 x → (i : ℕ) → FourFit x i
+four-fit x w i = record {
+  low = all-fit (number x w i) (number x w (i + 16)) (omega arith);
+  high = all-fit (number x w (i + 32)) (number x w (i + 48)) (omega arith);
+  sums = all-fit (added x w i (i + 16)) (added x w (i + 32) (i + 48)) (omega arith);
+  differences = all-fit (subtracted x w (i + 16) i) (subtracted x w (i + 48) (i + 32)) (omega arith);
+}
 
 -- ---- a turn
 

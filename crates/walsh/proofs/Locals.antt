@@ -63,5 +63,10 @@ module _ {u v a b : ℤ} {n : ℕ} (p : Holds u a n) (q : Holds v b n) (small : 
   }
 
 -- the sum, and the difference in either order
-pub all-fit : {u v a b : ℤ} {n : ℕ} → Holds u a n → Holds v b n → n ≤ 4096 → SFits w32 (kept u +ℤ kept v) × SFits w32 (kept u -ℤ kept v) × SFits w32 (kept v -ℤ kept u)
-all-fit p q small = (sum-fits p q small, difference-fits p q small, difference-fits q p small)
+pub record AllFit (u v : ℤ) : Type 0 where
+  pub sum : SFits w32 (kept u +ℤ kept v)
+  pub less : SFits w32 (kept u -ℤ kept v)
+  pub more : SFits w32 (kept v -ℤ kept u)
+
+pub all-fit : {u v a b : ℤ} {n : ℕ} → Holds u a n → Holds v b n → n ≤ 4096 → AllFit u v
+all-fit p q small = record { sum = sum-fits p q small; less = difference-fits p q small; more = difference-fits q p small }

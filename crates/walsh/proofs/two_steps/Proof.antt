@@ -9,8 +9,8 @@ use Rattle.lists.specs.Lists.{tab, at, over}
 use Rattle.lists.proofs.Fronts.{over-start, over-tab-whole}
 use Rattle.walsh.specs.Transform.{butterfly}
 use Rattle.walsh.specs.Internal.{stepOf}
-use Rattle.walsh.proofs.Locals.{sum-holds, difference-holds, all-fit}
-use Rattle.walsh.proofs.Fours.{first-of-four, second-of-four, third-of-four, fourth-of-four, number, added, subtracted, four-more}
+use Rattle.walsh.proofs.Locals.{sum-holds, difference-holds}
+use Rattle.walsh.proofs.Fours.{first-of-four, second-of-four, third-of-four, fourth-of-four, added, subtracted, FourFit, four-fit, four-more}
 use Rattle.walsh.proofs.two_steps.Statement.{statement}
 use Rattle.walsh.proofs.two_steps.Tie as tie
 
@@ -56,40 +56,23 @@ mul-fourth c = search needs
 array-copy-out-fourth : tie.Need-array-copy-out-fourth Inv-loop μ-loop
 array-copy-out-fourth c = search needs
 
+fit : (c : tie.After-fourth Inv-loop μ-loop) → FourFit (c .before .before .before .before .before .before .args .t1) (c .before .before .before .before .before .loop .i)
+fit c = four-fit _ (c .before .before .before .before .before .before .pre) _
+
 add-low-sum : tie.Need-add-low-sum Inv-loop μ-loop
-add-low-sum c =
-    let l = c .before .before .before .before .before in
-    let s = l .before in
-    let fit = all-fit (number (s .args .t1) (s .pre) (l .loop .i)) (number (s .args .t1) (s .pre) (l .loop .i + 16)) (omega arith) in
-    search fit
+add-low-sum c = fit c .low .sum
 
 sub-low-difference : tie.Need-sub-low-difference Inv-loop μ-loop
-sub-low-difference c =
-    let l = c .before .before .before .before .before in
-    let s = l .before in
-    let fit = all-fit (number (s .args .t1) (s .pre) (l .loop .i)) (number (s .args .t1) (s .pre) (l .loop .i + 16)) (omega arith) in
-    search fit
+sub-low-difference c = fit c .low .more
 
 add-high-sum : tie.Need-add-high-sum Inv-loop μ-loop
-add-high-sum c =
-    let l = c .before .before .before .before .before in
-    let s = l .before in
-    let fit = all-fit (number (s .args .t1) (s .pre) (l .loop .i + 32)) (number (s .args .t1) (s .pre) (l .loop .i + 48)) (omega arith) in
-    search fit
+add-high-sum c = fit c .high .sum
 
 sub-high-difference : tie.Need-sub-high-difference Inv-loop μ-loop
-sub-high-difference c =
-    let l = c .before .before .before .before .before in
-    let s = l .before in
-    let fit = all-fit (number (s .args .t1) (s .pre) (l .loop .i + 32)) (number (s .args .t1) (s .pre) (l .loop .i + 48)) (omega arith) in
-    search fit
+sub-high-difference c = fit c .high .more
 
 add-y : tie.Need-add-y Inv-loop μ-loop
-add-y c =
-    let l = c .before .before .before .before .before in
-    let s = l .before in
-    let fit = all-fit (added (s .args .t1) (s .pre) (l .loop .i) (l .loop .i + 16)) (added (s .args .t1) (s .pre) (l .loop .i + 32) (l .loop .i + 48)) (omega arith) in
-    search fit
+add-y c = fit c .sums .sum
 
 mul-y : tie.Need-mul-y Inv-loop μ-loop
 mul-y c = search needs
@@ -101,11 +84,7 @@ array-set-from-y : tie.Need-array-set-from-y Inv-loop μ-loop
 array-set-from-y c = search needs
 
 add-y-2 : tie.Need-add-y-2 Inv-loop μ-loop
-add-y-2 c =
-    let l = c .before .before .before .before .before in
-    let s = l .before in
-    let fit = all-fit (subtracted (s .args .t1) (s .pre) (l .loop .i + 16) (l .loop .i)) (subtracted (s .args .t1) (s .pre) (l .loop .i + 48) (l .loop .i + 32)) (omega arith) in
-    search fit
+add-y-2 c = fit c .differences .sum
 
 mul-y-3 : tie.Need-mul-y-3 Inv-loop μ-loop
 mul-y-3 c = search needs
@@ -121,10 +100,8 @@ array-set-from-y-2 c = search needs
 
 sub-y : tie.Need-sub-y Inv-loop μ-loop
 sub-y c =
-    let l = c .before .before .before .before .before in
-    let s = l .before in
-    let fit = all-fit (added (s .args .t1) (s .pre) (l .loop .i) (l .loop .i + 16)) (added (s .args .t1) (s .pre) (l .loop .i + 32) (l .loop .i + 48)) (omega arith) in
-    search fit
+    let sums = fit c .sums in
+    search sums
 
 mul-y-5 : tie.Need-mul-y-5 Inv-loop μ-loop
 mul-y-5 c = search needs
@@ -139,11 +116,7 @@ array-set-from-y-3 : tie.Need-array-set-from-y-3 Inv-loop μ-loop
 array-set-from-y-3 c = search needs
 
 sub-y-2 : tie.Need-sub-y-2 Inv-loop μ-loop
-sub-y-2 c =
-    let l = c .before .before .before .before .before in
-    let s = l .before in
-    let fit = all-fit (subtracted (s .args .t1) (s .pre) (l .loop .i + 16) (l .loop .i)) (subtracted (s .args .t1) (s .pre) (l .loop .i + 48) (l .loop .i + 32)) (omega arith) in
-    search fit
+sub-y-2 c = fit c .differences .more
 
 mul-y-7 : tie.Need-mul-y-7 Inv-loop μ-loop
 mul-y-7 c = search needs
