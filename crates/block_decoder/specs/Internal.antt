@@ -1,17 +1,15 @@
--- What only private contracts need: the symbols that are seen and the weights that count, the sign of what a symbol counts by the tables of
--- key bits and values of places, and what is found in an answer's array of eight characters.
-use mathlib.Core.Bool.{Bool, cond, not}
+-- What only private contracts need: the symbols that are seen and the weights that count, and what is found in an answer's array of eight
+-- characters.
+use mathlib.Core.Bool.{cond}
 use mathlib.Core.List.{List}
-use Prim.Native.Nat.{ℕ, _+_}
-use lib.Bits.{bitAnd}
+use Prim.Native.Nat.{ℕ}
 use lib.Dec.{ltb, eqb}
 use lib.ListN.{getD, replicate}
 use Rattle.lists.specs.Lists.{tab, num, over}
 use Rattle.lists.specs.Places.{first}
 use Rattle.refusal.specs.Refused.{unclearAt}
-use Rattle.walsh.specs.Words.{turned}
 use Rattle.decision.specs.declared.Character.{Character}
-use Rattle.chain.specs.Chain.{missingMark, bit}
+use Rattle.chain.specs.Chain.{missingMark}
 use Rattle.chain.specs.Tables.{symbolOf}
 use Rattle.block_decoder.specs.Decoding.{none, leadIn}
 use Rattle.block_decoder.specs.declared.Decoded.{Decoded}
@@ -33,16 +31,6 @@ heardWeight tone weight = cond (eqb tone missingMark) 0 weight
 
 unfoldable pub heardWeights : List ℕ → List ℕ → List ℕ
 heardWeights tones weights = tab (λ t. heardWeight (num tones t) (num weights t)) 64
-
--- ---- signs by tables
-
--- the sign of what a symbol counts for a character whose bit has this value in it, after XOR with a key bit
-unfoldable pub signBy : Bool → ℕ → ℕ → Bool
-signBy k value symbol = turned k (not (eqb (bitAnd symbol value) 0))
-
--- of symbol t for character q
-unfoldable pub tableSign : List ℕ → List ℕ → List ℕ → ℕ → ℕ → Bool
-tableSign keys values symbols q t = signBy (bit (num keys t) q) (num values (q + t)) (num symbols t)
 
 -- ---- the first n characters of eight
 

@@ -11,7 +11,6 @@ ghost use Rattle.block_decoder.specs.Symbols.{symbolCharacters};
 ghost use Rattle.block_decoder.specs.Internal.{judgementIn};
 
 mod decode;
-mod interleaver;
 
 // The greatest weight that a board sends: document 02, order 3.
 pub const GREATEST_WEIGHT: u8 = 15;
@@ -105,7 +104,7 @@ pub fn decide_symbols(mode: u32, symbols: &[u8; 64], weights: &[u8; 64]) -> [Cha
     let b = mode as usize;
     let mut q: usize = 0;
     while q < b {
-        let signs = interleaver::signs(q, &keys, &values, symbols);
+        let signs = signs::of_character(q, &keys, &values, symbols);
         characters[q] = lead_finder::decide(signs, weights);
         q += 1;
     }

@@ -24,8 +24,8 @@ use Rattle.weight_range.proofs.Ranges.{weight-throughout}
 use Rattle.block_decoder.specs.Decoding.{plain, heardSymbol, symbolsOf, countOf, countIn, weightedAt, weightedOf, charactersOf, none, padded}
 use Rattle.block_decoder.specs.Symbols.{symbolCount, symbolCharacter, symbolCharacters}
 use Rattle.block_decoder.proofs.Counts.{heard-present, heard-missing, symbol-heard, count-missing, count-present}
-use Rattle.checked_block.specs.Checked.{toneBelow, tonesBelow}
-use Rattle.checked_block.specs.Internal.{symbolsTo, weightBelow, weightsBelow}
+use Rattle.checked_block.specs.Checked.{toneBelow, tonesBelow, weightBelow}
+use Rattle.checked_block.specs.Internal.{symbolsTo, weightsBelow}
 use Rattle.checked_block.proofs.CheckedTones.{below-at}
 
 -- ---- a turn
@@ -88,7 +88,7 @@ module _ (limit : ℕ) (tones : List ℕ) where
         ∙ count-of (keyBit q t) ((q + t) % b) limit (num tones t) small
         ∙ sym (ap₂ (countOf (keyBit q t) ((q + t) % b)) (weight-throughout 1 t h) (symbol-heard (tonesBelow limit tones) t h ∙ ap heardSymbol (below-at limit tones t (omega arith))))
 
-    same-characters : (b : ℕ) → isMode b ≡ true → symbolCharacters b (symbolsTo tones 64) (weightsBelow limit tones) ≡ charactersOf b (tonesBelow limit tones)
+    pub same-characters : (b : ℕ) → isMode b ≡ true → symbolCharacters b (symbolsTo tones 64) (weightsBelow limit tones) ≡ charactersOf b (tonesBelow limit tones)
     unfolding symbolCharacters symbolCharacter weightedOf weightedAt
     same-characters b e = rw e (tab-ext none _ _ b (λ q h. counts-decide _ _ (same-count b q)))
 

@@ -16,6 +16,10 @@ toneBelow limit tone = cond (ltb tone limit) tone missingMark
 unfoldable pub tonesBelow : ℕ → List ℕ → List ℕ
 tonesBelow limit tones = tab (λ t. toneBelow limit (num tones t)) (length tones)
 
+-- what a tone counts: 1 below limit, and 0 else
+unfoldable pub weightBelow : ℕ → ℕ → ℕ
+weightBelow limit tone = cond (ltb tone limit) 1 0
+
 -- the answer for an output of room codes
 abbrev pub decodeChecked : ℕ → ℕ → List ℕ → ℕ → Decoded
 decodeChecked b m tones room = decodeBlock b m (tonesBelow (2 ^ b) tones) room .answer

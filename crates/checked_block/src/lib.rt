@@ -12,8 +12,8 @@ ghost use Rattle.refusal.specs.Checks.{isMode};
 ghost use Rattle.chain.specs.Tables.{symbolOf};
 ghost use Rattle.block_decoder.specs.Decoding.{charactersOf, codesOf, unlessUnclear, heardInto};
 ghost use Rattle.block_decoder.specs.declared.Decoded.the-variants.{Text};
-ghost use Rattle.checked_block.specs.Checked.{tonesBelow, decodeChecked, checkedInto};
-ghost use Rattle.checked_block.specs.Internal.{symbolsTo, weightBelow, weightsBelow};
+ghost use Rattle.checked_block.specs.Checked.{tonesBelow, weightBelow, decodeChecked, checkedInto};
+ghost use Rattle.checked_block.specs.Internal.{symbolsTo, weightsBelow};
 
 pub mod laws;
 
@@ -104,7 +104,8 @@ fn weights(limit: u16, tones: &[u16]) -> [u8; 64]
     weights
 }
 
-fn weight(limit: u16, tone: u16) -> u8
+// What a tone counts: a tone that is none of the mode's counts nothing.
+pub fn weight(limit: u16, tone: u16) -> u8
     ensures { λ r. ⌜ r ≡ weightBelow limit tone ⌝ }
 {
     if tone < limit { 1 } else { 0 }

@@ -16,7 +16,8 @@ pub const CENTRE: u8 = 4;
 pub const CODE_COUNT: u8 = 5;
 // The writer: a code of 128 or more, in a message also code 0.
 pub const CODE: u8 = 6;
-// The modem board: a block has not 64 tones, or with weights not 64 of these, or a message's count of tones is no multiple of 64 or too large.
+// The modem board: a block has not 64 tones, or with weights not 64 of these, a message's count of tones is no multiple of 64 or too large, or a
+// run has not 64 to 4,096.
 pub const TONE_COUNT: u8 = 7;
 // The modem board: a tone is neither one of the mode's nor an allowed missing mark.
 pub const TONE: u8 = 8;
@@ -28,6 +29,8 @@ pub const UNCLEAR: u8 = 10;
 pub const ZERO: u8 = 11;
 // The air or the far end: a message's text is too long.
 pub const TOO_LONG: u8 = 12;
+// The air or the far end: at no start of a run are 64 tones accepted.
+pub const NOT_FOUND: u8 = 13;
 // The modem board: a weight is above 15.
 pub const WEIGHT: u8 = 14;
 

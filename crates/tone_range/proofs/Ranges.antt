@@ -39,7 +39,7 @@ good-tone limit n (inr e) = rw (eq-eqb n missingMark e) (and-false-right (leb li
 pub bad-tone : (limit n : ℕ) → limit ≤ n → (n ≡ missingMark → ⊥) → leb limit n && not (eqb n missingMark) ≡ true
 bad-tone limit n h e = rw (le-leb limit n h, ne-eqb n missingMark e)
 
-tone-good : (limit n : ℕ) → leb limit n && not (eqb n missingMark) ≡ false → (n < limit) ⊎ (n ≡ missingMark)
+pub tone-good : (limit n : ℕ) → leb limit n && not (eqb n missingMark) ≡ false → (n < limit) ⊎ (n ≡ missingMark)
 tone-good limit n e = by (leb limit n) refl (eqb n missingMark) refl e
   where
     by : (s : Bool) → leb limit n ≡ s → (t : Bool) → eqb n missingMark ≡ t → s && not t ≡ false → (n < limit) ⊎ (n ≡ missingMark)

@@ -43,8 +43,8 @@ values-requires c κs = search needs
 loop-holds : tie.Need-loop-holds Inv-loop μ-loop
 loop-holds c = (mode-range _ (mode-known (c .before .before)) .1, search needs, over-start _ _)
 
-signs-requires : tie.Need-signs-requires Inv-loop μ-loop
-signs-requires c κs = search needs
+of-character-requires : tie.Need-of-character-requires Inv-loop μ-loop
+of-character-requires c κs = search needs
 
 decide-requires : tie.Need-decide-requires Inv-loop μ-loop
 decide-requires c κs = search needs
@@ -76,7 +76,7 @@ loop-again c =
     (l .before .before .keys .ensures)
     (l .before .values .ensures ∙ mode-values (a .mode) (mode-known e))
     (omega arith)
-    (c .before .signs .ensures)) in
+    (c .before .of-character .ensures)) in
     (high, omega arith, over-set none _ (l .loop .q) _ _ _ (omega arith) (l .loop .inv .2) here)
 
 returns-2 : tie.Need-returns-2 Inv-loop μ-loop
@@ -98,7 +98,7 @@ decide-symbols-spec =
     keys-requires
     values-requires
     loop-holds
-    signs-requires
+    of-character-requires
     decide-requires
     mul-characters
     array-set-from-characters

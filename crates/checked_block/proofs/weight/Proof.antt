@@ -1,5 +1,5 @@
 use borrow.Author.Tests.{lt-ltb, le-ltb}
-use Rattle.checked_block.specs.Internal.{weightBelow}
+use Rattle.checked_block.specs.Checked.{weightBelow}
 use Rattle.checked_block.proofs.weight.Statement.{statement}
 use Rattle.checked_block.proofs.weight.Tie as tie
 

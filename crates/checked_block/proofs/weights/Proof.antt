@@ -6,7 +6,8 @@ use lib.ListN.{replicate}
 use borrow.Author.Needs.{needs}
 use Rattle.lists.specs.Lists.{tab, num, over}
 use Rattle.lists.proofs.Fronts.{over-start, over-set, over-tab-whole}
-use Rattle.checked_block.specs.Internal.{weightBelow, weightsBelow}
+use Rattle.checked_block.specs.Checked.{weightBelow}
+use Rattle.checked_block.specs.Internal.{weightsBelow}
 use Rattle.checked_block.proofs.weights.Statement.{statement}
 use Rattle.checked_block.proofs.weights.Tie as tie
 

@@ -3,9 +3,9 @@ use mathlib.Core.Bool.{not}
 use lib.Bits.{bitAnd}
 use lib.Dec.{eqb}
 use Rattle.chain.proofs.Xors.{turned-differs}
-use Rattle.block_decoder.specs.Internal.{signBy}
-use Rattle.block_decoder.proofs.interleaver.sign.Statement.{statement}
-use Rattle.block_decoder.proofs.interleaver.sign.Tie as tie
+use Rattle.signs.specs.Signs.{signBy}
+use Rattle.signs.proofs.sign.Statement.{statement}
+use Rattle.signs.proofs.sign.Tie as tie
 
 returns : tie.Need-returns
 unfolding signBy

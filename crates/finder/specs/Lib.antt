@@ -1,0 +1,2 @@
+pub mod Finding
+pub mod Stretch
