@@ -1,7 +1,7 @@
 -- The starts of a run whose tones are in range: the search finds the first at which decoding accepts.
 use mathlib.Core.Path.{_≡_, sym, _∙_, ap}
 use mathlib.Core.List.{List}
-use Prim.Native.Nat.{ℕ, _+_, _-_, _<_, _≤_, _^_}
+use Prim.Native.Nat.{ℕ, _+_, _-_, _≤_, _^_}
 use native.Mathlib.Omega.{arith}
 use lib.ListN.{length, take, drop}
 use Rattle.lists.specs.Lists.{num}
@@ -9,8 +9,6 @@ use Rattle.lists.proofs.Places.{first-ext}
 use Rattle.refusal.specs.Checks.{IsSet}
 use Rattle.tone_range.specs.Range.{HasTones, firstBadTone}
 use Rattle.tone_range.proofs.Ranges.{tones-good, tone-good}
-use Rattle.block_decoder.specs.Decoding.{decodeBlock}
-use Rattle.block_decoder.specs.declared.Decoded.{Decoded}
 use Rattle.block_decoder.specs.declared.BlockDecoded.{BlockDecoded}
 use Rattle.block_decoder.proofs.Answers.{decided}
 use Rattle.checked_block.proofs.CheckedTones.{in-range}

@@ -1,9 +1,9 @@
 -- A block sent within a run is found at its place or before, and at its place with its text.
 use mathlib.Core.Path.{_≡_, sym, _∙_, ap}
-use mathlib.Core.Bool.{true, false}
+use mathlib.Core.Bool.{true}
 use mathlib.Core.List.{List}
 use mathlib.Core.Logic.{_⊎_, ⊎-elim}
-use Prim.Native.Nat.{ℕ, _+_, _*_, _<_, _≤_, _^_}
+use Prim.Native.Nat.{ℕ, _+_, _*_, _<_, _≤_}
 use native.Mathlib.Decide.{decLt}
 use native.Mathlib.Omega.{arith}
 use lib.Dec.{lit≤}
@@ -12,8 +12,6 @@ use Rattle.lists.specs.Lists.{over}
 use Rattle.lists.proofs.Places.{first-is}
 use Rattle.chain.specs.Chain.{tonesOf}
 use Rattle.block_decoder.specs.Decoding.{decodeBlock, decodedInto}
-use Rattle.block_decoder.specs.declared.Decoded.{Decoded}
-use Rattle.block_decoder.specs.declared.Decoded.the-variants.{Text}
 use Rattle.block_decoder.proofs.Clarity.{text-refused}
 use Rattle.search.specs.Starts.{stretchAt, starts, isText}
 use Rattle.finder.specs.Finding.{decodesAt, firstStart, findBlock, foundInto}
@@ -22,7 +20,7 @@ use Rattle.finder.proofs.Starts.{stretch-tones}
 use Rattle.finder.proofs.FindCases.{tells-start}
 use Rattle.demands.specs.Demand.{missingIn, replacedIn, Covered, Gives, RefusesAsUnclear}
 use Rattle.demands.proofs.Demands.{demand3}
-use Rattle.finder_laws.specs.Laws.{RunCovered, FoundBy, FindsSent, SentBlock}
+use Rattle.finder_laws.specs.Laws.{RunCovered, FoundBy, SentBlock}
 use Rattle.finder_laws.proofs.FirstBlocks.{first-block}
 
 module _ (b m : ℕ) (text run codes : List ℕ) (s : ℕ) (c : RunCovered b m text run codes) (inside : s + 64 ≤ length run) where

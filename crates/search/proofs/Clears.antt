@@ -1,6 +1,6 @@
 -- 64 tones are accepted precisely where every character is clear by their symbols and weights; and no start is without a mode or a set lead.
 use mathlib.Core.Path.{_≡_, sym, _∙_, ap, ap₂}
-use mathlib.Core.Bool.{Bool, true, false}
+use mathlib.Core.Bool.{true, false}
 use mathlib.Core.List.{List}
 use Prim.Native.Nat.{ℕ, _+_, _%_, _<_, _≤_, _^_}
 use native.Mathlib.Decide.{decLt}

@@ -1,6 +1,6 @@
 use mathlib.Core.Path.{_≡_, sym, _∙_, ap}
 use mathlib.Core.Bool.{true}
-use Prim.Native.Nat.{ℕ, _^_, _≤_}
+use Prim.Native.Nat.{ℕ, _^_}
 use native.Mathlib.Omega.{arith}
 use lib.ListN.{length}
 use borrow.Author.Needs.{needs}
@@ -9,7 +9,6 @@ use Rattle.refusal.specs.Checks.{isMode, IsSet}
 use Rattle.refusal.specs.Refused.{refusedAt}
 use Rattle.refusal.proofs.Limits.{within-range, mode-tones}
 use Rattle.tone_range.specs.Range.{firstBadTone, rangeOf}
-use Rattle.tone_range.specs.declared.Looked.{Looked}
 use Rattle.tone_range.proofs.Looks.{bad-found}
 use Rattle.search.specs.Starts.{longestRun}
 use Rattle.finder.specs.Finding.{isRun, firstStart}

@@ -1,8 +1,7 @@
 use mathlib.Core.Path.{_≡_, sym, _∙_}
 use mathlib.Core.Bool.{true}
-use native.Mathlib.Omega.{arith}
 use borrow.Author.Tests.{not-true, not-false}
-use Rattle.refusal.specs.Checks.{isMode, isLead}
+use Rattle.refusal.specs.Checks.{isMode}
 use Rattle.search.proofs.Clears.{too-short, too-long, searched, no-mode, no-lead}
 use borrow.Author.Needs.{needs}
 use Rattle.search.proofs.first_accepted.Statement.{statement}
