@@ -25,14 +25,15 @@
  *    4  the centre is above 10,000, or twice the centre is below the width
  *    5  a block has not exactly b codes, or a message has over 1,024
  *    6  a code of 128 or more, in a message also code 0; place of the lowest
- *    7  a block has not exactly 64 tones, or where weights are passed not exactly 64 of them, or a message's tones
- *       are no multiple of 64 or over 64 * ceil(1024 / b)
+ *    7  a block has not exactly 64 tones, or where weights are passed not exactly 64 of them, a message's tones are
+ *       no multiple of 64 or over 64 * ceil(1024 / b), or a run has not 64 to 4,096 tones
  *    8  a tone that is not below 2^b, nor a missing mark where that is allowed; the lowest place (a frequency: 0)
- *    9  the output is shorter than 64 tones a block encoded, or b bytes a block decoded
+ *    9  the output is shorter than 64 tones a block encoded, or b bytes a block decoded or found
  *   10  unclear; place of the lowest unclear character, counted from the text's start, and its lead
  *   11  a 0 before the end of a message's text, place of the first; if none, and at least b codes
  *       stand from the end on, place of the end
  *   12  a message's text is over 1,024 codes; place 1,024
+ *   13  at no start of a run are 64 tones accepted
  *   14  a weight above 15, of a missing tone too; the lowest place
  */
 #ifndef OLIVIA_H
@@ -73,6 +74,14 @@ typedef struct {
     olivia_answer answer;
     olivia_character characters[8];
 } olivia_block;
+
+/* The answer for a run of tones, the start of the block found, counted from 0, and the records of that block's b
+ * characters, those past them empty. On a refusal start is 0 and all eight records are empty. */
+typedef struct {
+    olivia_answer answer;
+    uint32_t start;
+    olivia_character characters[8];
+} olivia_found;
 
 /* number 0: place is 0. Else the refusal's number and place. looked is how many tones were looked at, refused or
  * not. */
@@ -120,6 +129,18 @@ olivia_block olivia_decode_block(uint32_t mode, uint32_t least_lead, const uint1
  * missing one, but has to be one of the mode's all the same. */
 olivia_block olivia_decode_weighted(uint32_t mode, uint32_t least_lead, const uint16_t *tones, size_t n,
                                     const uint8_t *weights, size_t weights_n, uint8_t *codes, size_t room);
+
+/* Finds the first block in a run of n tones, 64 to 4,096, whose start is unknown: the first start at which
+ * olivia_decode_block accepts the 64 tones from there on, at the same mode and set lead. Checks 1, 2, 7, 9, 8, 13;
+ * 8 is of the whole run, and 13 stands in the place of 10. Accepted: count is b, the block is the 64 tones from
+ * run + start on, the caller's own, and records and codes are those that olivia_decode_block gives for them: the
+ * first b elements of codes are the block's codes. At every earlier start the tones are unclear, with 13 at every
+ * start. If a block was sent, and is heard from place s of the run on with u tones missing and r replaced, then a
+ * start is found that is s or before it, provided that 64 - 2u - 4r is at least the set lead; and if the start
+ * found is s, and 2u + 4r is below 64 plus the set lead, the codes are the text sent. An earlier start can be
+ * accepted by chance, with a text that nobody sent; how often, by mode and set lead, is in docs/SEARCH.md. */
+olivia_found olivia_find_block(uint32_t mode, uint32_t least_lead, const uint16_t *run, size_t n,
+                               uint8_t *codes, size_t room);
 
 /* Encodes a text of n codes; code 0 fills the last block. Checks 1, 5, 9, 6. Accepted: count is
  * 64 * ceil(n / b), and so many elements at the front of tones are the message's tones. */

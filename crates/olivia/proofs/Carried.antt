@@ -11,7 +11,7 @@ use lib.ListN.{length, length-map}
 use Rattle.refusal.specs.Refused.{refusedAt}
 use Rattle.refusal.specs.Checks.{isLeadAt, isMode, isLead}
 use Rattle.refusal.specs.declared.Refusal.{Refusal}
-use Rattle.refusal.proofs.Limits.{mode-range}
+use Rattle.refusal.proofs.Limits.{within-range, mode-range}
 use Rattle.decision.specs.declared.Character.{Character}
 use Rattle.tone_range.specs.Range.{firstBadTone}
 use Rattle.weight_range.specs.Range.{firstBadWeight}
@@ -32,7 +32,10 @@ use Rattle.message_decoder.proofs.HeardBlocks.{message-count}
 use Rattle.band.specs.Limits.{fault}
 use Rattle.band.specs.Frequencies.{hertzOf, frequencyOf}
 use Rattle.band.specs.declared.Tuned.the-variants as tuned
-use Rattle.olivia.specs.Internal.{carriedBy, heardCarries}
+use Rattle.search.specs.Starts.{longestRun, starts}
+use Rattle.finder.specs.Finding.{firstStart, isRun, foundStart, findBlock}
+use Rattle.finder.specs.declared.Finding.{Finding}
+use Rattle.told.proofs.Kept.{carriedBy, heardCarries, findingCarries}
 
 -- what holds of each of two answers holds of the one that a test chooses
 either-way : {A : Type 0} (P : A → Type 0) (t : Bool) (x y : A) → (t ≡ true → P x) → (t ≡ false → P y) → P (cond t x y)
@@ -85,6 +88,26 @@ block-heard-small N b m tones weights room =
     (λ _.
     let high : b ≤ 8 = mode-range b (not-false _ mode) .1 in
     judged-small m (weightedOf b tones weights) (Text b) (omega (arith, characters-length b tones weights)) (omega arith))))))))
+
+-- ---- a block in a run
+
+abbrev SmallFound : Finding → Type 0
+SmallFound answer = findingCarries answer < 2 ^ 32
+
+pub found-small : (b m : ℕ) (run : List ℕ) (room : ℕ) → findingCarries (findBlock b m run room .answer) < 2 ^ 32
+unfolding findBlock foundStart
+found-small b m run room =
+    either-way SmallFound (not (isMode b)) _ _ (λ _. omega arith) (λ _.
+    either-way SmallFound (not (isLead m)) _ _ (λ _. omega arith) (λ _.
+    either-way SmallFound (not (isRun run)) _ _ (λ _. omega arith) (λ count.
+    let short : length run ≤ 4096 = within-range 64 longestRun (length run) (not-false _ count) .1 in
+    either-way SmallFound (ltb room b) _ _ (λ _. omega arith) (λ _.
+    either-way SmallFound (ltb (firstBadTone (2 ^ b) run) (length run)) _ _
+    (λ bad. omega (arith, ltb-true (firstBadTone (2 ^ b) run) (length run) bad))
+    (λ _.
+    either-way SmallFound (ltb (firstStart b m run room) (starts run)) _ _
+    (λ found. omega (arith, ltb-true (firstStart b m run room) (starts run) found))
+    (λ _. omega arith))))))
 
 -- ---- a message
 

@@ -2,9 +2,10 @@
 use mathlib.Core.Path.{_≡_, sym, _∙_, ap}
 use mathlib.Core.List.{List}
 use mathlib.Core.Logic.{⊎-elim, inl, inr}
-use Prim.Native.Nat.{ℕ, _≤_}
+use Prim.Native.Nat.{ℕ}
 use native.Mathlib.Omega.{arith}
 use lib.ListN.{length}
+use Rattle.lists.specs.Caps.{capped}
 use Rattle.block_encoder.specs.declared.Encoded.{Encoded}
 use Rattle.block_decoder.specs.Decoding.{leadIn, decodeBlock}
 use Rattle.block_decoder.specs.declared.Decoded.{Decoded}
@@ -12,8 +13,9 @@ use Rattle.block_decoder.specs.declared.BlockDecoded.{BlockDecoded}
 use Rattle.demands.specs.Demand.{Gives, RefusesAsUnclear, MeetsDemand3}
 use Rattle.demands.specs.declared.Trial.{Trial}
 use Rattle.trial.specs.Tried.{trialOf, Tried}
-use Rattle.trial.specs.WeightedTried.{capped}
-use Rattle.olivia.specs.Told.{encodedTold, decodedTold, trialTold}
+use Rattle.told.specs.Told.{encodedTold, decodedTold}
+use Rattle.told.proofs.Kept.{small-kept}
+use Rattle.olivia.specs.Told.{trialTold}
 use Rattle.olivia.specs.Tried.{GivesForC, RefusesForC, MeetsDemand3ForC, TriedForC}
 use Rattle.olivia.specs.declared.TrialAnswers.{TrialAnswers}
 
@@ -38,18 +40,13 @@ module _ (b m : ℕ) (text out out′ : List ℕ) (d : BlockDecoded) where
         kept = u .kept;
       }
 
--- a count within a block is told as it is
-small-count : (n : ℕ) → n ≤ 64 → capped n ≡ n
-unfolding capped
-small-count n h = omega arith
-
 module _ (b m : ℕ) (text heard tones tones′ one one′ two two′ : List ℕ) (t : Trial) where
   demand-told : MeetsDemand3 b m text t tones tones′ one one′ two two′
       → MeetsDemand3ForC b m text (t .second .characters) (trialTold t) tones tones′ one one′ two two′
   unfolding trialTold
   demand-told d =
-      let r : capped (t .replaced) ≡ t .replaced = small-count (t .replaced) (omega (arith, d .places)) in
-      let u : capped (t .missing) ≡ t .missing = small-count (t .missing) (omega (arith, d .places)) in
+      let r : capped (t .replaced) ≡ t .replaced = small-kept (t .replaced) (omega (arith, d .places)) in
+      let u : capped (t .missing) ≡ t .missing = small-kept (t .missing) (omega (arith, d .places)) in
       record {
         accepted = ap (λ (e : Encoded). encodedTold e .number) (d .accepted);
         count = ap (λ (e : Encoded). encodedTold e .count) (d .accepted);

@@ -9,7 +9,8 @@ use Rattle.block_decoder.specs.Decoding.{decodeWeighted}
 use Rattle.weighted_demands.specs.Demand.{MeetsWeightedDemand3}
 use Rattle.weighted_demands.specs.declared.WeightedTrial.{WeightedTrial}
 use Rattle.trial.specs.WeightedTried.{weightedTrialOf, WeightedTried}
-use Rattle.olivia.specs.Told.{encodedTold, weightedTrialTold}
+use Rattle.told.specs.Told.{encodedTold}
+use Rattle.olivia.specs.Told.{weightedTrialTold}
 use Rattle.olivia.specs.WeightedTried.{MeetsWeightedDemand3ForC, WeightedTriedForC}
 use Rattle.olivia.specs.declared.WeightedTrialAnswers.{WeightedTrialAnswers}
 use Rattle.olivia.proofs.TrialsTold.{gives-told, refuses-told}

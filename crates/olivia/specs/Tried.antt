@@ -13,8 +13,8 @@ use Rattle.block_decoder.specs.Decoding.{leadIn, decodeBlock, decodedInto}
 use Rattle.demands.specs.Demand.{Covered}
 use Rattle.demands.specs.Laws.{air}
 use Rattle.trial.specs.Tried.{trialOf}
+use Rattle.told.specs.declared.Answer.{Answer}
 use Rattle.olivia.specs.Told.{trialTold}
-use Rattle.olivia.specs.declared.Answer.{Answer}
 use Rattle.olivia.specs.declared.TrialAnswers.{TrialAnswers}
 
 -- a text is given: number 0 and count b, and its codes are written

@@ -1,52 +1,21 @@
 // The C library: the entries of documents 01 and 02 for C and C++. include/olivia.h declares them.
-use block_decoder::BlockDecoded;
-use block_decoder::Decoded;
-use block_decoder::NONE;
-use block_encoder::Encoded;
-use decision::Character;
-use refusal::Refusal;
 use refusal::checks;
+use told::Answer;
+use told::BlockAnswer;
+use told::FoundAnswer;
 ghost use mathlib.Core.Path.{_≡_};
-ghost use Prim.Native.Nat.{_<_, _^_};
 ghost use lib.ListN.{length};
 ghost use Rattle.block_encoder.specs.Encoding.{encodeBlock, encodedInto};
 ghost use Rattle.block_decoder.specs.Decoding.{decodeBlock, decodeWeighted, decodedInto, weightedInto};
-ghost use Rattle.trial.specs.WeightedTried.{capped};
 ghost use Rattle.message_encoder.specs.Blocks.{longest};
 ghost use Rattle.message_encoder.specs.Encoding.{encodeMessage, messageEncodedInto};
 ghost use Rattle.message_decoder.specs.Decoding.{decodeMessage, messageDecodedInto};
 ghost use Rattle.band.specs.Frequencies.{frequencyOf};
-ghost use Rattle.olivia.specs.Told.{acceptedTold, refusalTold, encodedTold, decodedTold, characterTold, charactersTold, blockTold, lookedAnswer, lookedTold, hertzTold};
+ghost use Rattle.finder.specs.Finding.{findBlock, foundInto};
+ghost use Rattle.told.specs.Told.{encodedTold, decodedTold, blockTold, foundTold};
+ghost use Rattle.olivia.specs.Told.{lookedAnswer, lookedTold, hertzTold};
 ghost use Rattle.olivia.specs.Tried.{TriedForC};
 ghost use Rattle.olivia.specs.WeightedTried.{WeightedTriedForC};
-ghost use Rattle.olivia.specs.Internal.{carriedBy, heardCarries};
-
-// number 0: accepted, and count is the tones or codes written. Else the refusal, and count is 0.
-#[repr(C)]
-pub struct Answer {
-    pub number: u32,
-    pub place: u32,
-    pub lead: u32,
-    pub count: u32,
-}
-
-// A decided character: code and lead, the word that won and the word that came next, each with its correlation.
-#[repr(C)]
-pub struct CharacterAnswer {
-    pub code: u32,
-    pub lead: u32,
-    pub word: u32,
-    pub correlation: i32,
-    pub next: u32,
-    pub next_correlation: i32,
-}
-
-// The answer for a block, and its characters; six zeros past the mode's, and where none was decided.
-#[repr(C)]
-pub struct BlockAnswer {
-    pub answer: Answer,
-    pub characters: [CharacterAnswer; 8],
-}
 
 // number 0: no tone is bad, and place is 0. Else the refusal. looked is how many tones were looked at.
 #[repr(C)]
@@ -88,7 +57,7 @@ pub extern "C" fn olivia_encode_block(mode: u32, codes: &[u8], tones: &mut [u16]
     ensures answer { λ r. ⌜ r ≡ encodedTold (encodeBlock mode (now (codes .entry)) (length (now (tones .entry)))) ⌝ }
     ensures output { λ _. ⌜ now (tones .exit) ≡ encodedInto mode (now (codes .entry)) (now (tones .entry)) ⌝ }
 {
-    told_encoded(block_encoder::encode_block(mode, codes, tones))
+    told::encoded(block_encoder::encode_block(mode, codes, tones))
 }
 
 #[no_mangle]
@@ -101,7 +70,7 @@ pub extern "C" fn olivia_decode_block(
     ensures answer { λ r. ⌜ r ≡ blockTold (decodeBlock mode «least_lead» (now (tones .entry)) (length (now (codes .entry)))) ⌝ }
     ensures output { λ _. ⌜ now (codes .exit) ≡ decodedInto mode «least_lead» (now (tones .entry)) (now (codes .entry)) ⌝ }
 {
-    told_block(block_decoder::decode_block(mode, least_lead, tones, codes))
+    told::block(block_decoder::decode_block(mode, least_lead, tones, codes))
 }
 
 #[no_mangle]
@@ -115,7 +84,20 @@ pub extern "C" fn olivia_decode_weighted(
     ensures answer { λ r. ⌜ r ≡ blockTold (decodeWeighted mode «least_lead» (now (tones .entry)) (now (weights .entry)) (length (now (codes .entry)))) ⌝ }
     ensures output { λ _. ⌜ now (codes .exit) ≡ weightedInto mode «least_lead» (now (tones .entry)) (now (weights .entry)) (now (codes .entry)) ⌝ }
 {
-    told_block(block_decoder::decode_weighted(mode, least_lead, tones, weights, codes))
+    told::block(block_decoder::decode_weighted(mode, least_lead, tones, weights, codes))
+}
+
+#[no_mangle]
+pub extern "C" fn olivia_find_block(
+    mode: u32,
+    least_lead: u32,
+    run: &[u16],
+    codes: &mut [u8],
+) -> FoundAnswer
+    ensures answer { λ r. ⌜ r ≡ foundTold mode (findBlock mode «least_lead» (now (run .entry)) (length (now (codes .entry)))) ⌝ }
+    ensures output { λ _. ⌜ now (codes .exit) ≡ foundInto mode «least_lead» (now (run .entry)) (now (codes .entry)) ⌝ }
+{
+    told::found(mode, finder::find(mode, least_lead, run, codes))
 }
 
 #[no_mangle]
@@ -137,7 +119,7 @@ pub extern "C" fn olivia_encode_message(mode: u32, text: &[u8], tones: &mut [u16
     ensures answer { λ r. ⌜ r ≡ encodedTold (encodeMessage longest mode (now (text .entry)) (length (now (tones .entry)))) ⌝ }
     ensures output { λ _. ⌜ now (tones .exit) ≡ messageEncodedInto longest mode (now (text .entry)) (now (tones .entry)) ⌝ }
 {
-    told_encoded(message_encoder::encode_message(mode, text, tones))
+    told::encoded(message_encoder::encode_message(mode, text, tones))
 }
 
 #[no_mangle]
@@ -150,7 +132,7 @@ pub extern "C" fn olivia_decode_message(
     ensures answer { λ r. ⌜ r ≡ decodedTold (decodeMessage longest mode «least_lead» (now (tones .entry)) (length (now (text .entry)))) ⌝ }
     ensures output { λ _. ⌜ now (text .exit) ≡ messageDecodedInto longest mode «least_lead» (now (tones .entry)) (now (text .entry)) ⌝ }
 {
-    told_decoded(message_decoder::decode_message(mode, least_lead, tones, text))
+    told::decoded(message_decoder::decode_message(mode, least_lead, tones, text))
 }
 
 #[no_mangle]
@@ -165,7 +147,7 @@ pub extern "C" fn olivia_frequency(mode: u32, width: u32, centre: u32, tone: u16
             hertz,
         },
         band::Tuned::Refused(refusal) => {
-            let answer = refused(refusal);
+            let answer = told::refused(refusal);
             HertzAnswer {
                 number: answer.number,
                 place: answer.place,
@@ -195,11 +177,11 @@ pub extern "C" fn olivia_trial_run(
     let first_answer = first.answer;
     let second_answer = second.answer;
     TrialAnswers {
-        encoded: told_encoded(encoded),
-        first: told_decoded(first_answer),
-        second: told_decoded(second_answer),
-        replaced: capped(trial.replaced),
-        missing: capped(trial.missing),
+        encoded: told::encoded(encoded),
+        first: told::decoded(first_answer),
+        second: told::decoded(second_answer),
+        replaced: told::capped(trial.replaced),
+        missing: told::capped(trial.missing),
     }
 }
 
@@ -224,9 +206,9 @@ pub extern "C" fn olivia_weighted_trial_run(
     let one_answer = one.answer;
     let two_answer = two.answer;
     WeightedTrialAnswers {
-        encoded: told_encoded(encoded),
-        first: told_decoded(one_answer),
-        second: told_decoded(two_answer),
+        encoded: told::encoded(encoded),
+        first: told::decoded(one_answer),
+        second: told::decoded(two_answer),
         damage: trial.damage,
     }
 }
@@ -239,95 +221,4 @@ fn looked(number: u8, place: usize, count: usize) -> LookedAnswer
         place: place as u64,
         looked: count as u64,
     }
-}
-
-fn accepted(count: usize) -> Answer
-    requires { ⌜ count < 2 ^ 32 ⌝ }
-    ensures { λ r. ⌜ r ≡ acceptedTold count ⌝ }
-{
-    Answer {
-        number: 0,
-        place: 0,
-        lead: 0,
-        count: count as u32,
-    }
-}
-
-fn refused(refusal: Refusal) -> Answer
-    requires { ⌜ refusal .place < 2 ^ 32 ⌝ }
-    ensures { λ r. ⌜ r ≡ refusalTold refusal ⌝ }
-{
-    Answer {
-        number: refusal.number as u32,
-        place: refusal.place as u32,
-        lead: refusal.lead,
-        count: 0,
-    }
-}
-
-fn told_encoded(answer: Encoded) -> Answer
-    requires { ⌜ carriedBy answer < 2 ^ 32 ⌝ }
-    ensures { λ r. ⌜ r ≡ encodedTold answer ⌝ }
-{
-    match answer {
-        Encoded::Tones(count) => accepted(count),
-        Encoded::Refused(refusal) => refused(refusal),
-    }
-}
-
-fn told_decoded(answer: Decoded) -> Answer
-    requires { ⌜ heardCarries answer < 2 ^ 32 ⌝ }
-    ensures { λ r. ⌜ r ≡ decodedTold answer ⌝ }
-{
-    match answer {
-        Decoded::Text(count) => accepted(count),
-        Decoded::Refused(refusal) => refused(refusal),
-    }
-}
-
-fn told_block(heard: BlockDecoded) -> BlockAnswer
-    requires { ⌜ heardCarries (heard .answer) < 2 ^ 32 ⌝ }
-    ensures { λ r. ⌜ r ≡ blockTold heard ⌝ }
-{
-    let answer = heard.answer;
-    let characters = heard.characters;
-    BlockAnswer {
-        answer: told_decoded(answer),
-        characters: told_characters(characters),
-    }
-}
-
-fn told_characters(characters: [Character; 8]) -> [CharacterAnswer; 8]
-    ensures { λ r. ⌜ r ≡ charactersTold characters ⌝ }
-{
-    let mut told = [told_character(NONE); 8];
-    let mut q: usize = 0;
-    while q < 8 {
-        told[q] = told_character(characters[q]);
-        q += 1;
-    }
-    told
-}
-
-fn told_character(character: Character) -> CharacterAnswer
-    ensures { λ r. ⌜ r ≡ characterTold character ⌝ }
-{
-    CharacterAnswer {
-        code: character.code as u32,
-        lead: character.lead,
-        word: character.word,
-        correlation: character.correlation,
-        next: character.next,
-        next_correlation: character.next_correlation,
-    }
-}
-
-// A count for C: 2^32 - 1 stands for every larger one.
-fn capped(count: usize) -> u32
-    ensures { λ r. ⌜ r ≡ capped count ⌝ }
-{
-    if 0xffff_ffff < count {
-        return 0xffff_ffff;
-    }
-    count as u32
 }

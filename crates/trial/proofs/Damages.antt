@@ -4,7 +4,7 @@ use Prim.Native.Nat.{ℕ, _+_}
 use native.Mathlib.Numerals.{add-one}
 use native.Mathlib.Omega.{arith}
 use Rattle.lists.specs.Sums.{total}
-use Rattle.trial.specs.WeightedTried.{capped}
+use Rattle.lists.specs.Caps.{capped}
 
 -- a sum that was capped before is capped the same
 pub capped-more : (f : ℕ → ℕ) (t damage more next : ℕ) → damage ≡ capped (total t f) → more ≡ f t → next ≡ capped (damage + more) → next ≡ capped (total (t + 1) f)

@@ -6,6 +6,7 @@ use Prim.Native.Nat.{ℕ, _+_, _-_, _*_, _≤_}
 use native.Mathlib.Omega.{arith}
 use lib.ListN.{length, take}
 use Rattle.lists.specs.Lists.{num}
+use Rattle.lists.specs.Caps.{capped}
 use Rattle.lists.proofs.Sums.{total-within}
 use Rattle.weight_range.specs.Range.{HasWeights, throughout}
 use Rattle.block_encoder.specs.Encoding.{encodeBlock, encodedInto, countSent, onAir}
@@ -16,7 +17,7 @@ use Rattle.demands.specs.Demand.{isMissing, isReplaced, damageAt, damageIn}
 use Rattle.demands.specs.Laws.{air}
 use Rattle.demands.proofs.Sent.{sends, air-sent}
 use Rattle.weighted_demands.proofs.Demands.{weighted-demand3}
-use Rattle.trial.specs.WeightedTried.{capped, weightedTrialOf, WeightedTried}
+use Rattle.trial.specs.WeightedTried.{weightedTrialOf, WeightedTried}
 
 -- ---- D of 64 tones is told as it is
 

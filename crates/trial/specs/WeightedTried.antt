@@ -2,8 +2,9 @@
 -- `Demand`.
 use mathlib.Core.Path.{_≡_}
 use mathlib.Core.List.{List}
-use Prim.Native.Nat.{ℕ, min}
+use Prim.Native.Nat.{ℕ}
 use lib.ListN.{length}
+use Rattle.lists.specs.Caps.{capped}
 use Rattle.weight_range.specs.Range.{throughout}
 use Rattle.block_encoder.specs.Encoding.{encodeBlock, encodedInto}
 use Rattle.block_decoder.specs.Decoding.{decodeWeighted, weightedInto}
@@ -11,10 +12,6 @@ use Rattle.demands.specs.Demand.{damageIn}
 use Rattle.demands.specs.Laws.{air}
 use Rattle.weighted_demands.specs.Demand.{WeightedCovered, MeetsWeightedDemand3}
 use Rattle.weighted_demands.specs.declared.WeightedTrial.{WeightedTrial}
-
--- the largest number of 32 bits stands for every larger one
-unfoldable pub capped : ℕ → ℕ
-capped n = min n 4294967295
 
 unfoldable pub weightedTrialOf : ℕ → ℕ → List ℕ → List ℕ → List ℕ → List ℕ → List ℕ → List ℕ → WeightedTrial
 weightedTrialOf b m text heard weights tones one two = record {

@@ -7,9 +7,9 @@ ghost use Prim.Native.Nat.{_+_};
 ghost use lib.Dec.{ltb, eqb};
 ghost use lib.ListN.{length};
 ghost use Rattle.lists.specs.Lists.{num};
+ghost use Rattle.lists.specs.Caps.{capped};
 ghost use Rattle.chain.specs.Chain.{missingMark};
 ghost use Rattle.demands.specs.Demand.{damageIn};
-ghost use Rattle.trial.specs.WeightedTried.{capped};
 ghost use Rattle.trial.specs.Internal.{damageOf};
 
 // Weight 0 stands past the end.

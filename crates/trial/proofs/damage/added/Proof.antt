@@ -1,6 +1,6 @@
 use native.Mathlib.Omega.{arith}
 use borrow.Author.Needs.{needs}
-use Rattle.trial.specs.WeightedTried.{capped}
+use Rattle.lists.specs.Caps.{capped}
 use Rattle.trial.proofs.damage.added.Statement.{statement}
 use Rattle.trial.proofs.damage.added.Tie as tie
 

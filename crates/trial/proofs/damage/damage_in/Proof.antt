@@ -4,8 +4,8 @@ use native.Mathlib.Omega.{arith}
 use lib.ListN.{length}
 use borrow.Author.Needs.{needs}
 use Rattle.lists.specs.Sums.{total}
+use Rattle.lists.specs.Caps.{capped}
 use Rattle.demands.specs.Demand.{isMissing, damageAt, damageIn}
-use Rattle.trial.specs.WeightedTried.{capped}
 use Rattle.trial.specs.Internal.{damageOf}
 use Rattle.trial.proofs.Damages.{capped-more}
 use Rattle.trial.proofs.damage.damage_in.Statement.{statement}

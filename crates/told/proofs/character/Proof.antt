@@ -4,11 +4,11 @@ use lib.IntN.{ℤ}
 use mir.Syntax.{w32}
 use mir.Facts.{toZ-ofZ}
 use borrow.Author.Needs.{needs}
-use Rattle.olivia.specs.declared.CharacterAnswer.{CharacterAnswer}
-use Rattle.olivia.specs.Told.{characterTold}
+use Rattle.told.specs.declared.CharacterAnswer.{CharacterAnswer}
+use Rattle.told.specs.Told.{characterTold}
 use Rattle.decision.specs.declared.Character.{Character}
-use Rattle.olivia.proofs.told_character.Statement.{statement}
-use Rattle.olivia.proofs.told_character.Tie as tie
+use Rattle.told.proofs.character.Statement.{statement}
+use Rattle.told.proofs.character.Tie as tie
 
 same : (c : Character) {y z : ℤ} → y ≡ c .correlation → z ≡ c .«next_correlation»
     → _≡_ {A = CharacterAnswer} (record { code = c .code; lead = c .lead; word = c .word; correlation = y; next = c .next; «next_correlation» = z }) (characterTold c)
@@ -25,5 +25,5 @@ returns c =
     (toZ-ofZ {w = w32} {z = s .args .character .correlation} (record { sfits = held .1 .1 .1 .1 .1 .0 .1 }))
     (toZ-ofZ {w = w32} {z = s .args .character .«next_correlation»} (record { sfits = held .1 .1 .1 .1 .1 .1 .1 .0 .1 }))
 
-pub told-character-spec : {M : Type 1} → statement M
-told-character-spec = tie.close (tie.spec cast-t2 returns)
+pub character-spec : {M : Type 1} → statement M
+character-spec = tie.close (tie.spec cast-t2 returns)

@@ -6,9 +6,9 @@ use lib.ListN.{getD, replicate}
 use Rattle.lists.specs.Lists.{tab, over}
 use Rattle.lists.proofs.Fronts.{over-start, over-set, over-tab-whole}
 use Rattle.block_decoder.specs.Decoding.{none}
-use Rattle.olivia.specs.Told.{characterTold, charactersTold}
-use Rattle.olivia.proofs.told_characters.Statement.{statement}
-use Rattle.olivia.proofs.told_characters.Tie as tie
+use Rattle.told.specs.Told.{characterTold, charactersTold}
+use Rattle.told.proofs.characters.Statement.{statement}
+use Rattle.told.proofs.characters.Tie as tie
 
 abbrev Inv-loop : tie.InvT-loop
 Inv-loop characters told₀ q₀ told q = (q ≤ 8) × (told ≡ over (tab (λ k. characterTold (getD characters k none)) q) (replicate 8 (characterTold none)))
@@ -16,20 +16,20 @@ Inv-loop characters told₀ q₀ told q = (q ≤ 8) × (told ≡ over (tab (λ k
 abbrev μ-loop : tie.MeasureT-loop
 μ-loop characters told₀ q₀ told q = 8 - q
 
-told-character-requires : tie.Need-told-character-requires Inv-loop μ-loop
-told-character-requires c κs = search needs
+character-requires : tie.Need-character-requires Inv-loop μ-loop
+character-requires c κs = search needs
 
 loop-holds : tie.Need-loop-holds Inv-loop μ-loop
-loop-holds c = (search needs, ap (replicate 8) (c .told-character .ensures) ∙ over-start _ _)
+loop-holds c = (search needs, ap (replicate 8) (c .character .ensures) ∙ over-start _ _)
 
-mul-told-character : tie.Need-mul-told-character Inv-loop μ-loop
-mul-told-character c = search needs
+mul-character : tie.Need-mul-character Inv-loop μ-loop
+mul-character c = search needs
 
-array-copy-out-told-character : tie.Need-array-copy-out-told-character Inv-loop μ-loop
-array-copy-out-told-character c = search needs
+array-copy-out-character : tie.Need-array-copy-out-character Inv-loop μ-loop
+array-copy-out-character c = search needs
 
-told-character-requires-2 : tie.Need-told-character-requires-2 Inv-loop μ-loop
-told-character-requires-2 c κs = search needs
+character-requires-2 : tie.Need-character-requires-2 Inv-loop μ-loop
+character-requires-2 c κs = search needs
 
 mul-told : tie.Need-mul-told Inv-loop μ-loop
 mul-told c = search needs
@@ -46,7 +46,7 @@ loop-less c = search needs
 loop-again : tie.Need-loop-again Inv-loop μ-loop
 loop-again c =
     let l = c .before .before .before .loop in
-    (search needs, over-set (characterTold none) _ (l .q) _ _ _ (omega arith) (l .inv .1) (c .told-character2 .ensures))
+    (search needs, over-set (characterTold none) _ (l .q) _ _ _ (omega arith) (l .inv .1) (c .character2 .ensures))
 
 returns : tie.Need-returns Inv-loop μ-loop
 unfolding charactersTold
@@ -55,17 +55,17 @@ returns c =
     let e : l .q ≡ 8 = omega arith in
     (rw e at (l .inv .1)) ∙ over-tab-whole _ 8 _ (omega arith)
 
-pub told-characters-spec : {M : Type 1} → statement M
-told-characters-spec =
+pub characters-spec : {M : Type 1} → statement M
+characters-spec =
     tie.close
     (tie.spec
     Inv-loop
     μ-loop
-    told-character-requires
+    character-requires
     loop-holds
-    mul-told-character
-    array-copy-out-told-character
-    told-character-requires-2
+    mul-character
+    array-copy-out-character
+    character-requires-2
     mul-told
     array-set-from-told
     add-q

@@ -2,9 +2,9 @@ use mathlib.Core.Path.{sym}
 use native.Mathlib.Nat.{min-eq-left, min-eq-right}
 use native.Mathlib.Omega.{arith}
 use borrow.Author.Needs.{needs}
-use Rattle.trial.specs.WeightedTried.{capped}
-use Rattle.olivia.proofs.capped.Statement.{statement}
-use Rattle.olivia.proofs.capped.Tie as tie
+use Rattle.lists.specs.Caps.{capped}
+use Rattle.told.proofs.capped.Statement.{statement}
+use Rattle.told.proofs.capped.Tie as tie
 
 returns : tie.Need-returns
 unfolding capped

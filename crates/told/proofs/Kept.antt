@@ -1,0 +1,53 @@
+-- An answer that carries less than 2^32 is its own capped answer.
+use mathlib.Core.Path.{_≡_, ap}
+use Prim.Native.Nat.{ℕ, _<_, _^_}
+use native.Mathlib.Omega.{arith}
+use Rattle.lists.specs.Caps.{capped}
+use Rattle.refusal.specs.declared.Refusal.{Refusal}
+use Rattle.block_encoder.specs.declared.Encoded.{Encoded}
+use Rattle.block_encoder.specs.declared.Encoded.the-variants as encoded
+use Rattle.block_decoder.specs.declared.Decoded.{Decoded}
+use Rattle.block_decoder.specs.declared.Decoded.the-variants as decoded
+use Rattle.block_decoder.specs.declared.BlockDecoded.{BlockDecoded}
+use Rattle.finder.specs.declared.Finding.{Finding}
+use Rattle.finder.specs.declared.Finding.the-variants as finding
+use Rattle.finder.specs.declared.BlockFound.{BlockFound}
+use Rattle.told.specs.Capped.{placeCapped, sentCapped, heardCapped, blockCapped, findingCapped, foundCapped}
+
+-- the count or the place that an answer carries
+abbrev pub carriedBy : Encoded → ℕ
+carriedBy (encoded.Tones n) = n
+carriedBy (encoded.Refused r) = r .place
+
+abbrev pub heardCarries : Decoded → ℕ
+heardCarries (decoded.Text n) = n
+heardCarries (decoded.Refused r) = r .place
+
+abbrev pub findingCarries : Finding → ℕ
+findingCarries (finding.Start start) = start
+findingCarries (finding.Refused r) = r .place
+
+pub small-kept : (n : ℕ) → n < 2 ^ 32 → capped n ≡ n
+unfolding capped
+small-kept n h = omega arith
+
+place-kept : (r : Refusal) → r .place < 2 ^ 32 → placeCapped r ≡ r
+place-kept r h = let e = small-kept (r .place) h in λ i. record { number = r .number; place = e i; lead = r .lead }
+
+pub sent-kept : (a : Encoded) → carriedBy a < 2 ^ 32 → sentCapped a ≡ a
+sent-kept (encoded.Tones n) h = ap encoded.Tones (small-kept n h)
+sent-kept (encoded.Refused r) h = ap encoded.Refused (place-kept r h)
+
+pub heard-kept : (a : Decoded) → heardCarries a < 2 ^ 32 → heardCapped a ≡ a
+heard-kept (decoded.Text n) h = ap decoded.Text (small-kept n h)
+heard-kept (decoded.Refused r) h = ap decoded.Refused (place-kept r h)
+
+pub block-kept : (d : BlockDecoded) → heardCarries (d .answer) < 2 ^ 32 → blockCapped d ≡ d
+block-kept d h = let e = heard-kept (d .answer) h in λ i. record { answer = e i; characters = d .characters }
+
+finding-kept : (a : Finding) → findingCarries a < 2 ^ 32 → findingCapped a ≡ a
+finding-kept (finding.Start start) h = ap finding.Start (small-kept start h)
+finding-kept (finding.Refused r) h = ap finding.Refused (place-kept r h)
+
+pub found-kept : (d : BlockFound) → findingCarries (d .answer) < 2 ^ 32 → foundCapped d ≡ d
+found-kept d h = let e = finding-kept (d .answer) h in λ i. record { answer = e i; characters = d .characters }

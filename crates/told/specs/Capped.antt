@@ -1,0 +1,38 @@
+-- Answers as 32 bits hold them.
+use Rattle.lists.specs.Caps.{capped}
+use Rattle.refusal.specs.declared.Refusal.{Refusal}
+use Rattle.block_encoder.specs.declared.Encoded.{Encoded}
+use Rattle.block_encoder.specs.declared.Encoded.the-variants as encoded
+use Rattle.block_decoder.specs.declared.Decoded.{Decoded}
+use Rattle.block_decoder.specs.declared.Decoded.the-variants as decoded
+use Rattle.block_decoder.specs.declared.BlockDecoded.{BlockDecoded}
+use Rattle.finder.specs.declared.Finding.{Finding}
+use Rattle.finder.specs.declared.Finding.the-variants as finding
+use Rattle.finder.specs.declared.BlockFound.{BlockFound}
+
+-- a refusal with its place capped
+abbrev pub placeCapped : Refusal → Refusal
+placeCapped r = record { number = r .number; place = capped (r .place); lead = r .lead }
+
+-- what encoding answers, with its count or place capped
+abbrev pub sentCapped : Encoded → Encoded
+sentCapped (encoded.Tones n) = encoded.Tones (capped n)
+sentCapped (encoded.Refused r) = encoded.Refused (placeCapped r)
+
+-- the same of decoding
+abbrev pub heardCapped : Decoded → Decoded
+heardCapped (decoded.Text n) = decoded.Text (capped n)
+heardCapped (decoded.Refused r) = decoded.Refused (placeCapped r)
+
+-- a decoded block with its answer capped
+abbrev pub blockCapped : BlockDecoded → BlockDecoded
+blockCapped d = record { answer = heardCapped (d .answer); characters = d .characters }
+
+-- what finding answers, with its start or place capped
+abbrev pub findingCapped : Finding → Finding
+findingCapped (finding.Start start) = finding.Start (capped start)
+findingCapped (finding.Refused r) = finding.Refused (placeCapped r)
+
+-- a block found with its answer capped
+abbrev pub foundCapped : BlockFound → BlockFound
+foundCapped d = record { answer = findingCapped (d .answer); characters = d .characters }

@@ -1,0 +1,61 @@
+-- What C is told of each answer (include/olivia.h).
+use mathlib.Core.List.{List}
+use Prim.Native.Nat.{ℕ}
+use lib.ListN.{getD}
+use Rattle.lists.specs.Lists.{tab}
+use Rattle.refusal.specs.declared.Refusal.{Refusal}
+use Rattle.decision.specs.declared.Character.{Character}
+use Rattle.block_encoder.specs.declared.Encoded.{Encoded}
+use Rattle.block_encoder.specs.declared.Encoded.the-variants as encoded
+use Rattle.block_decoder.specs.Decoding.{none}
+use Rattle.block_decoder.specs.declared.Decoded.{Decoded}
+use Rattle.block_decoder.specs.declared.Decoded.the-variants as decoded
+use Rattle.block_decoder.specs.declared.BlockDecoded.{BlockDecoded}
+use Rattle.finder.specs.Stretch.{startOf}
+use Rattle.finder.specs.declared.Finding.{Finding}
+use Rattle.finder.specs.declared.Finding.the-variants as finding
+use Rattle.finder.specs.declared.BlockFound.{BlockFound}
+use Rattle.told.specs.declared.Answer.{Answer}
+use Rattle.told.specs.declared.CharacterAnswer.{CharacterAnswer}
+use Rattle.told.specs.declared.BlockAnswer.{BlockAnswer}
+use Rattle.told.specs.declared.FoundAnswer.{FoundAnswer}
+
+-- number 0: accepted, with the count of tones or codes written
+abbrev pub acceptedTold : ℕ → Answer
+acceptedTold n = record { number = 0; place = 0; lead = 0; count = n }
+
+abbrev pub refusalTold : Refusal → Answer
+refusalTold r = record { number = r .number; place = r .place; lead = r .lead; count = 0 }
+
+abbrev pub encodedTold : Encoded → Answer
+encodedTold (encoded.Tones n) = acceptedTold n
+encodedTold (encoded.Refused r) = refusalTold r
+
+abbrev pub decodedTold : Decoded → Answer
+decodedTold (decoded.Text n) = acceptedTold n
+decodedTold (decoded.Refused r) = refusalTold r
+
+abbrev pub characterTold : Character → CharacterAnswer
+characterTold c = record {
+  code = c .code;
+  lead = c .lead;
+  word = c .word;
+  correlation = c .correlation;
+  next = c .next;
+  «next_correlation» = c .«next_correlation»;
+}
+
+-- all eight characters
+unfoldable pub charactersTold : List Character → List CharacterAnswer
+charactersTold characters = tab (λ q. characterTold (getD characters q none)) 8
+
+unfoldable pub blockTold : BlockDecoded → BlockAnswer
+blockTold d = record { answer = decodedTold (d .answer); characters = charactersTold (d .characters) }
+
+-- a block found has the mode's b codes
+abbrev pub findingTold : ℕ → Finding → Answer
+findingTold b (finding.Start start) = acceptedTold b
+findingTold b (finding.Refused r) = refusalTold r
+
+unfoldable pub foundTold : ℕ → BlockFound → FoundAnswer
+foundTold b d = record { answer = findingTold b (d .answer); start = startOf (d .answer); characters = charactersTold (d .characters) }

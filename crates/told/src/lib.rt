@@ -1,0 +1,160 @@
+// What C is told of each answer. A count or a place that 32 bits do not hold is capped.
+use block_decoder::BlockDecoded;
+use block_decoder::Decoded;
+use block_decoder::NONE;
+use block_encoder::Encoded;
+use decision::Character;
+use finder::BlockFound;
+use finder::Finding;
+use refusal::Refusal;
+ghost use mathlib.Core.Path.{_≡_};
+ghost use Rattle.lists.specs.Caps.{capped};
+ghost use Rattle.told.specs.Told.{acceptedTold, refusalTold, encodedTold, decodedTold, characterTold, charactersTold, blockTold, foundTold};
+ghost use Rattle.told.specs.Capped.{placeCapped, sentCapped, heardCapped, blockCapped, foundCapped};
+
+// number 0: accepted, and count is the tones or codes written. Else the refusal, and count is 0.
+#[repr(C)]
+pub struct Answer {
+    pub number: u32,
+    pub place: u32,
+    pub lead: u32,
+    pub count: u32,
+}
+
+// A decided character: code and lead, the word that won and the word that came next, each with its correlation.
+#[repr(C)]
+pub struct CharacterAnswer {
+    pub code: u32,
+    pub lead: u32,
+    pub word: u32,
+    pub correlation: i32,
+    pub next: u32,
+    pub next_correlation: i32,
+}
+
+// The answer for a block, and its characters; six zeros past the mode's, and where none was decided.
+#[repr(C)]
+pub struct BlockAnswer {
+    pub answer: Answer,
+    pub characters: [CharacterAnswer; 8],
+}
+
+// The answer for a run, the start of the block found, and its characters; a refusal has neither, and zeros stand there.
+#[repr(C)]
+pub struct FoundAnswer {
+    pub answer: Answer,
+    pub start: u32,
+    pub characters: [CharacterAnswer; 8],
+}
+
+pub fn encoded(answer: Encoded) -> Answer
+    ensures { λ r. ⌜ r ≡ encodedTold (sentCapped answer) ⌝ }
+{
+    match answer {
+        Encoded::Tones(count) => accepted(count),
+        Encoded::Refused(refusal) => refused(refusal),
+    }
+}
+
+pub fn decoded(answer: Decoded) -> Answer
+    ensures { λ r. ⌜ r ≡ decodedTold (heardCapped answer) ⌝ }
+{
+    match answer {
+        Decoded::Text(count) => accepted(count),
+        Decoded::Refused(refusal) => refused(refusal),
+    }
+}
+
+pub fn block(heard: BlockDecoded) -> BlockAnswer
+    ensures { λ r. ⌜ r ≡ blockTold (blockCapped heard) ⌝ }
+{
+    let answer = heard.answer;
+    let decided = heard.characters;
+    BlockAnswer {
+        answer: decoded(answer),
+        characters: characters(decided),
+    }
+}
+
+// A block found in a run has the mode's count of codes.
+pub fn found(mode: u32, found: BlockFound) -> FoundAnswer
+    ensures { λ r. ⌜ r ≡ foundTold mode (foundCapped found) ⌝ }
+{
+    let answer = found.answer;
+    let decided = found.characters;
+    let told = characters(decided);
+    match answer {
+        Finding::Start(start) => FoundAnswer {
+            answer: Answer {
+                number: 0,
+                place: 0,
+                lead: 0,
+                count: mode,
+            },
+            start: capped(start),
+            characters: told,
+        },
+        Finding::Refused(refusal) => FoundAnswer {
+            answer: refused(refusal),
+            start: 0,
+            characters: told,
+        },
+    }
+}
+
+pub fn accepted(count: usize) -> Answer
+    ensures { λ r. ⌜ r ≡ acceptedTold (capped count) ⌝ }
+{
+    Answer {
+        number: 0,
+        place: 0,
+        lead: 0,
+        count: capped(count),
+    }
+}
+
+pub fn refused(refusal: Refusal) -> Answer
+    ensures { λ r. ⌜ r ≡ refusalTold (placeCapped refusal) ⌝ }
+{
+    Answer {
+        number: refusal.number as u32,
+        place: capped(refusal.place),
+        lead: refusal.lead,
+        count: 0,
+    }
+}
+
+pub fn characters(characters: [Character; 8]) -> [CharacterAnswer; 8]
+    ensures { λ r. ⌜ r ≡ charactersTold characters ⌝ }
+{
+    let mut told = [character(NONE); 8];
+    let mut q: usize = 0;
+    while q < 8 {
+        told[q] = character(characters[q]);
+        q += 1;
+    }
+    told
+}
+
+fn character(character: Character) -> CharacterAnswer
+    ensures { λ r. ⌜ r ≡ characterTold character ⌝ }
+{
+    CharacterAnswer {
+        code: character.code as u32,
+        lead: character.lead,
+        word: character.word,
+        correlation: character.correlation,
+        next: character.next,
+        next_correlation: character.next_correlation,
+    }
+}
+
+// A count for C: 2^32 - 1 stands for every larger one.
+pub fn capped(count: usize) -> u32
+    ensures { λ r. ⌜ r ≡ capped count ⌝ }
+{
+    if 0xffff_ffff < count {
+        return 0xffff_ffff;
+    }
+    count as u32
+}
