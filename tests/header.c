@@ -6,7 +6,7 @@
 #include <stdio.h>
 #include <string.h>
 
-enum { TONES = 64, MISSING = 65535 };
+enum { TONES = 64, LONGEST_RUN = 4096, MISSING = 65535 };
 
 static_assert(sizeof(olivia_answer) == 16, "four numbers of 32 bits");
 static_assert(offsetof(olivia_character, code) == 0 && offsetof(olivia_character, lead) == 4 &&
@@ -15,6 +15,8 @@ static_assert(offsetof(olivia_character, code) == 0 && offsetof(olivia_character
                   sizeof(olivia_character) == 24,
               "six numbers of 32 bits");
 static_assert(offsetof(olivia_block, characters) == 16 && sizeof(olivia_block) == 208, "an answer and eight records");
+static_assert(offsetof(olivia_found, start) == 16 && offsetof(olivia_found, characters) == 20 && sizeof(olivia_found) == 212,
+              "an answer, a number and eight records");
 static_assert(offsetof(olivia_looked, place) == 8 && offsetof(olivia_looked, looked) == 16 && sizeof(olivia_looked) == 24,
               "a number of 32 bits and two of 64");
 static_assert(offsetof(olivia_hertz, hertz) == 8 && sizeof(olivia_hertz) == 16, "two numbers and a double");
@@ -110,6 +112,58 @@ static void range_checks(void)
     check("the tones before it", looked(olivia_check_tones(8, tones, 40), 0, 0, 40));
     check("a check at mode 9", looked(olivia_check_tones(9, tones, TONES), 1, 0, 0));
     check("a check of 0 tones", looked(olivia_check_tones(8, tones + 40, 0), 0, 0, 0));
+}
+
+/* What is told of the block found, without its start. */
+static olivia_block block_of(olivia_found found)
+{
+    olivia_block block;
+
+    block.answer = found.answer;
+    memcpy(block.characters, found.characters, sizeof block.characters);
+    return block;
+}
+
+static int found(olivia_found given, uint32_t start, uint8_t code)
+{
+    const olivia_character clean = {code, 64, code, 64, code == 0, 0};
+
+    return is(given.answer, 0, 0, 0, 1) && given.start == start && tells(block_of(given), clean);
+}
+
+static int not_found(olivia_found given, uint32_t number, uint32_t place)
+{
+    static const olivia_character none = {0, 0, 0, 0, 0, 0};
+
+    return is(given.answer, number, place, 0, 0) && given.start == 0 && tells(block_of(given), none);
+}
+
+/* Two blocks of mode 1 among missing tones: code 0 at 40, and code 1 at the last start. */
+static void searches(void)
+{
+    static uint16_t run[LONGEST_RUN + 1];
+    const uint8_t sent[2] = {0, 1};
+    const size_t last = LONGEST_RUN - TONES;
+    uint8_t codes[2] = {99, 99};
+
+    for (size_t place = 0; place <= LONGEST_RUN; place++)
+        run[place] = MISSING;
+    check("marks only", not_found(olivia_find_block(1, 1, run, LONGEST_RUN, codes, 2), 13, 0));
+    olivia_encode_block(1, &sent[0], 1, run + 40, TONES);
+    olivia_encode_block(1, &sent[1], 1, run + last, TONES);
+    check("the second block", found(olivia_find_block(1, 64, run + 41, LONGEST_RUN - 41, codes, 2), last - 41, 1));
+    check("its code", codes[0] == 1 && codes[1] == 99);
+    check("the first block", found(olivia_find_block(1, 64, run, LONGEST_RUN, codes, 1), 40, 0));
+    check("the first code", codes[0] == 0 && codes[1] == 99);
+    check("the block alone", found(olivia_find_block(1, 64, run + 40, TONES, codes, 1), 0, 0));
+    check("63 tones", not_found(olivia_find_block(1, 64, run + 40, TONES - 1, codes, 1), 7, 0));
+    check("4,097 tones", not_found(olivia_find_block(1, 64, run, LONGEST_RUN + 1, codes, 1), 7, 0));
+    check("a search with no output", not_found(olivia_find_block(1, 64, run, LONGEST_RUN, NULL, 0), 9, 0));
+    run[last] = 2;
+    check("tone 2 behind a block", not_found(olivia_find_block(1, 64, run, LONGEST_RUN, codes, 1), 8, last));
+    check("a search at lead 65", not_found(olivia_find_block(1, 65, run, LONGEST_RUN, codes, 1), 2, 0));
+    check("a search at mode 9", not_found(olivia_find_block(9, 64, run, LONGEST_RUN, codes, 1), 1, 0));
+    check("no code of a refusal", codes[0] == 0 && codes[1] == 99);
 }
 
 static void frequencies(void)
@@ -212,6 +266,7 @@ int main(void)
     blocks();
     messages();
     range_checks();
+    searches();
     frequencies();
     trials();
     weights();

@@ -29,6 +29,15 @@ pub struct Block {
     pub characters: [Character; 8],
 }
 
+/// Number 0: `start` is that of the block found, and the records are its own.
+#[repr(C)]
+#[derive(Clone, Copy, Debug, Default, PartialEq, Eq)]
+pub struct Found {
+    pub answer: Answer,
+    pub start: u32,
+    pub characters: [Character; 8],
+}
+
 /// Number 0: no tone is bad. `looked` is how many tones were looked at.
 #[repr(C)]
 #[derive(Clone, Copy, Debug, Default, PartialEq, Eq)]
@@ -66,7 +75,7 @@ pub struct WeightedTrial {
 }
 
 mod c {
-    use super::{Answer, Block, Hertz, Looked, Trial, WeightedTrial};
+    use super::{Answer, Block, Found, Hertz, Looked, Trial, WeightedTrial};
 
     extern "C" {
         pub fn olivia_encode_block(
@@ -100,6 +109,14 @@ mod c {
             room: usize,
         ) -> Answer;
         pub fn olivia_check_tones(mode: u32, tones: *const u16, n: usize) -> Looked;
+        pub fn olivia_find_block(
+            mode: u32,
+            least_lead: u32,
+            run: *const u16,
+            n: usize,
+            codes: *mut u8,
+            room: usize,
+        ) -> Found;
         pub fn olivia_frequency(mode: u32, width: u32, centre: u32, tone: u16) -> Hertz;
         pub fn olivia_trial_run(
             mode: u32,
@@ -185,6 +202,11 @@ pub fn decode_message(mode: u32, least_lead: u32, tones: &[u16], text: &mut [u8]
 
 pub fn check_tones(mode: u32, tones: &[u16]) -> Looked {
     unsafe { c::olivia_check_tones(mode, start(tones), tones.len()) }
+}
+
+pub fn find_block(mode: u32, least_lead: u32, run: &[u16], codes: &mut [u8]) -> Found {
+    let (to, room) = (start_mut(codes), codes.len());
+    unsafe { c::olivia_find_block(mode, least_lead, start(run), run.len(), to, room) }
 }
 
 pub fn frequency(mode: u32, width: u32, centre: u32, tone: u16) -> Hertz {

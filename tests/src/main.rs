@@ -3,7 +3,7 @@
 
 mod groups;
 
-use groups::{cases, compare, demand3, listing, plain, range, records, sheet};
+use groups::{cases, compare, demand3, finding, listing, plain, range, records, sheet};
 use groups::{vectors, weight0, weighted, weights, words, Report};
 use olivia_tests::paper;
 use std::io::{self, Read, Write};
@@ -11,13 +11,14 @@ use std::process::ExitCode;
 
 type Group = (&'static str, fn() -> Report);
 
-const GROUPS: [Group; 13] = [
+const GROUPS: [Group; 14] = [
     ("vectors", vectors::run),
     ("words", words::run),
     ("sheet", sheet::run),
     ("records", records::run),
     ("weights", weights::run),
     ("range", range::run),
+    ("finding", finding::run),
     ("cases", cases::run),
     ("compare", compare::run),
     ("plain", plain::run),

@@ -1,7 +1,8 @@
 //! Calls the library so many times on one input, for a tool that counts instructions: `count WORK MODE TIMES`, where WORK is
-//! `encode`, `decode`, `weighted`, `message`, `bad-first`, `bad-last`, `check` or `check-long`.
+//! `encode`, `decode`, `weighted`, `message`, `find`, `find-long`, `bad-first`, `bad-last`, `check` or `check-long`.
 
 use olivia_tests::library;
+use olivia_tests::random::Random;
 use std::hint::black_box;
 use std::process::ExitCode;
 
@@ -11,6 +12,11 @@ const LONGEST_MESSAGE: usize = 1024;
 /// Tones that are checked by themselves: a block's, and the most that the board delivers with the start unknown.
 const SHORT_RUN: usize = 64;
 const LONG_RUN: usize = 4096;
+
+/// Random tones that are searched, as many as these or as the longest run, in which no start is accepted at this set lead.
+const SEARCHED: usize = 1024;
+const SEARCH_LEAD: u32 = 32;
+const SEED: u64 = 1;
 
 fn main() -> ExitCode {
     let words: Vec<String> = std::env::args().skip(1).collect();
@@ -23,6 +29,8 @@ fn main() -> ExitCode {
         "decode" => decode(mode, times),
         "weighted" => weighted(mode, times),
         "message" => message(mode, times),
+        "find" => find(mode, times, SEARCHED),
+        "find-long" => find(mode, times, LONG_RUN),
         work => return look(work, mode, times),
     }
     ExitCode::SUCCESS
@@ -41,7 +49,7 @@ fn look(work: &str, mode: u32, times: u32) -> ExitCode {
 }
 
 fn usage() -> ExitCode {
-    eprintln!("usage: count encode|decode|weighted|message|bad-first|bad-last|check|check-long MODE TIMES");
+    eprintln!("usage: count encode|decode|weighted|message|find|find-long|bad-first|bad-last|check|check-long MODE TIMES");
     ExitCode::FAILURE
 }
 
@@ -105,6 +113,17 @@ fn message(mode: u32, times: u32) {
     for _ in 0..times {
         let answer = library::decode_message(mode, LEAST_LEAD, black_box(&tones), &mut text);
         assert_eq!(black_box(answer).number, 0);
+    }
+}
+
+/// A search of so many random tones that goes to their end.
+fn find(mode: u32, times: u32, count: usize) {
+    let mut random = Random::new(SEED);
+    let run: Vec<u16> = (0..count).map(|_| random.below(1 << mode) as u16).collect();
+    let mut codes = [0; 8];
+    for _ in 0..times {
+        let found = library::find_block(mode, SEARCH_LEAD, black_box(&run), &mut codes);
+        assert_eq!(black_box(found).answer.number, 13);
     }
 }
 

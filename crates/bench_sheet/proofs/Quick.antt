@@ -7,10 +7,10 @@ use Rattle.lists.specs.Lists.{tab, at}
 use Rattle.lists.proofs.Tables.{tab-at, tab-ext}
 use Rattle.walsh.specs.Words.{corr, correlationsOf}
 use Rattle.walsh.proofs.Sizes.{steps, six-steps}
-use Rattle.decision.specs.Decision.{decision}
+use Rattle.decision.specs.Decision.{decision, none}
 use Rattle.decision.specs.declared.Character.{Character}
 use Rattle.decision.proofs.Choice.{decision-ext, counts-decide}
-use Rattle.block_decoder.specs.Decoding.{symbolsOf, countIn, weightedAt, weightedOf, none}
+use Rattle.block_decoder.specs.Decoding.{symbolsOf, countIn, weightedAt, weightedOf}
 
 -- the 64 counts and the 64 correlations are lists, so that each is computed once
 decision-by-steps : (h : ℕ → ℤ) → decision (corr h) ≡ decision (at (steps 6 (tab h 64)))

@@ -13,8 +13,9 @@ use Rattle.lists.proofs.Fronts.{over-tab-at}
 use Rattle.lists.proofs.Places.{first-ext}
 use Rattle.lists.proofs.Tables.{tab-length, tab-at, tab-ext, tab-map}
 use Rattle.refusal.specs.Refused.{unclearAt}
+use Rattle.decision.specs.Decision.{none}
 use Rattle.decision.specs.declared.Character.{Character}
-use Rattle.block_decoder.specs.Decoding.{weightedAt, weightedOf, codesOf, none, leadIn, firstUnclear, unlessUnclear, padded}
+use Rattle.block_decoder.specs.Decoding.{weightedAt, weightedOf, codesOf, leadIn, firstUnclear, unlessUnclear, padded}
 use Rattle.block_decoder.specs.Internal.{codeIn, firstUnclearIn, judgementIn}
 use Rattle.block_decoder.specs.declared.Decoded.the-variants.{Text, Refused}
 

@@ -1,5 +1,4 @@
 pub mod Counts
-pub mod TableCounts
 pub mod Seen
 pub mod Characters
 pub mod Clarity

@@ -9,20 +9,24 @@ use borrow.Author.Tests.{eq-eqb, ne-eqb}
 use lib.Dec.{eqb}
 use lib.IntN.{pos}
 use lib.ListN.{length, set, replicate, length-replicate}
-use Rattle.lists.specs.Lists.{tab, num}
+use Rattle.lists.specs.Lists.{tab, num, over}
 use Rattle.lists.proofs.Fronts.{over-start, over-set, over-length, over-tab-whole}
 use Rattle.lists.proofs.Tables.{tab-length, tab-at, tab-ext}
 use Rattle.refusal.specs.Checks.{isMode}
+use Rattle.refusal.proofs.Limits.{mode-range}
 use Rattle.walsh.specs.Words.{signed, turned}
 use Rattle.walsh.proofs.Signed.{signed-zero}
+use Rattle.decision.specs.Decision.{none}
 use Rattle.decision.specs.declared.Character.{Character}
 use Rattle.decision.proofs.Choice.{counts-decide}
 use Rattle.chain.specs.Chain.{bit, keyBit, missingMark}
-use Rattle.chain.specs.Tables.{symbolOf}
+use Rattle.chain.specs.Tables.{symbolOf, placeValue}
 use Rattle.chain.proofs.GrayCodes.{symbol-marked}
+use Rattle.characters.specs.Symbols.{symbolCount, symbolCharacter, symbolCharacters}
+use Rattle.characters.proofs.Reached.{all-decided}
+use Rattle.characters.proofs.TableSigns.{place-count}
 use Rattle.weight_range.specs.Range.{HasWeights}
-use Rattle.block_decoder.specs.Decoding.{heardSymbol, symbolsOf, countOf, countIn, weightedAt, weightedOf, none, padded}
-use Rattle.block_decoder.specs.Symbols.{symbolCount, symbolCharacter, symbolCharacters}
+use Rattle.block_decoder.specs.Decoding.{heardSymbol, symbolsOf, countOf, countIn, weightedAt, weightedOf, padded}
 use Rattle.block_decoder.specs.Internal.{seenSymbol, seenTo, heardWeight, heardWeights}
 use Rattle.block_decoder.proofs.Counts.{symbol-heard, count-missing, count-present}
 
@@ -88,17 +92,20 @@ module _ (tones weights : List ℕ) where
             let few : weight % 16 ≡ weight = omega arith in
             rw few (sym (count-present k place weight (symbolOf tone) (symbol-marked tone)))
 
-    seen-count : (b q t : ℕ) → t < 64 → symbolCount b (seenTo tones 64) (heardWeights tones weights) q t ≡ countIn b (symbolsOf tones) weights q t
-    unfolding symbolCount countIn
-    seen-count b q t l =
-        ap₂ (λ (n s : ℕ). signed (turned (keyBit q t) (bit s ((q + t) % b))) (pos (n % 16))) (weight-at t l) (symbol-at t l)
-        ∙ count-of (keyBit q t) ((q + t) % b) (num weights t) (num tones t) (w .each t l)
-        ∙ ap (countOf (keyBit q t) ((q + t) % b) (num weights t)) (sym (symbol-heard tones t l))
+    module _ (b : ℕ) (e : isMode b ≡ true) (values : List ℕ) (v : values ≡ tab (placeValue b) 72) where
+      seen-count : (q t : ℕ) → q < b → t < 64 → symbolCount values (seenTo tones 64) (heardWeights tones weights) q t ≡ countIn b (symbolsOf tones) weights q t
+      unfolding countIn
+      seen-count q t h l =
+          place-count b values (seenTo tones 64) (heardWeights tones weights) q t v (omega (arith, mode-range b e)) l
+          ∙ ap₂ (λ (n s : ℕ). signed (turned (keyBit q t) (bit s ((q + t) % b))) (pos (n % 16))) (weight-at t l) (symbol-at t l)
+          ∙ count-of (keyBit q t) ((q + t) % b) (num weights t) (num tones t) (w .each t l)
+          ∙ ap (countOf (keyBit q t) ((q + t) % b) (num weights t)) (sym (symbol-heard tones t l))
 
-    seen-characters : (b : ℕ) → isMode b ≡ true → symbolCharacters b (seenTo tones 64) (heardWeights tones weights) ≡ weightedOf b tones weights
-    unfolding symbolCharacters symbolCharacter weightedOf weightedAt
-    seen-characters b e = rw e (tab-ext none _ _ b (λ q h. counts-decide _ _ (seen-count b q)))
+      seen-characters : symbolCharacters b 0 values (seenTo tones 64) (heardWeights tones weights) ≡ weightedOf b tones weights
+      unfolding symbolCharacter weightedOf weightedAt
+      seen-characters = all-decided b values (seenTo tones 64) (heardWeights tones weights) e ∙ tab-ext none _ _ b (λ q h. counts-decide _ _ (λ t l. seen-count q t h l))
 
-    pub seen-found : (b : ℕ) (symbols heard : List ℕ) (found : List Character) → isMode b ≡ true → symbols ≡ seenTo tones 64 → heard ≡ heardWeights tones weights
-        → found ≡ padded (symbolCharacters b symbols heard) → found ≡ padded (weightedOf b tones weights)
-    seen-found b symbols heard found e p q f = f ∙ ap padded (rw (p, q) (seen-characters b e))
+      pub seen-found : (symbols heard : List ℕ) (found : List Character) → symbols ≡ seenTo tones 64 → heard ≡ heardWeights tones weights
+          → found ≡ over (symbolCharacters b 0 values symbols heard) (replicate 8 none) → found ≡ padded (weightedOf b tones weights)
+      unfolding padded
+      seen-found symbols heard found p q f = f ∙ ap (λ (x : List Character). over x (replicate 8 none)) (rw (p, q) seen-characters)

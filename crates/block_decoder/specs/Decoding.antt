@@ -11,7 +11,7 @@ use Rattle.lists.specs.Places.{first}
 use Rattle.refusal.specs.Refused.{refusedAt, unclearAt}
 use Rattle.refusal.specs.Checks.{isLeadAt, isMode}
 use Rattle.walsh.specs.Words.{signed, corr, turned}
-use Rattle.decision.specs.Decision.{decision}
+use Rattle.decision.specs.Decision.{decision, none}
 use Rattle.decision.specs.declared.Character.{Character}
 use Rattle.chain.specs.Chain.{missingMark, bit, keyBit}
 use Rattle.chain.specs.Tables.{symbolOf}
@@ -60,10 +60,6 @@ charactersOf b tones = weightedOf b tones plain
 
 unfoldable pub codesOf : List Character → List ℕ
 codesOf characters = map (λ c. c .code) characters
-
--- what stands where no character is decided
-abbrev pub none : Character
-none = record { code = 0; lead = 0; word = 0; correlation = pos 0; next = 0; «next_correlation» = pos 0 }
 
 abbrev pub leadIn : List Character → ℕ → ℕ
 leadIn characters q = getD characters q none .lead

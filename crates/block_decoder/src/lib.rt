@@ -1,13 +1,13 @@
 // One block of the published chain, decoded: document 01, "Hearing a block", and document 02, order 3.
-use chain::scrambler;
+use chain::interleaver;
 use decision::Character;
+use decision::NONE;
 use refusal::Refusal;
 use refusal::checks;
 ghost use mathlib.Core.Path.{_≡_};
 ghost use Prim.Native.Nat.{ℕ, _≤_};
 ghost use lib.ListN.{length};
-ghost use Rattle.block_decoder.specs.Decoding.{weightedOf, codesOf, padded, refused, heardBlock, decodeBlock, decodeWeighted, heardInto, decodedInto, weightedInto};
-ghost use Rattle.block_decoder.specs.Symbols.{symbolCharacters};
+ghost use Rattle.block_decoder.specs.Decoding.{weightedOf, codesOf, refused, heardBlock, decodeBlock, decodeWeighted, heardInto, decodedInto, weightedInto};
 ghost use Rattle.block_decoder.specs.Internal.{judgementIn};
 
 mod decode;
@@ -17,16 +17,6 @@ pub const GREATEST_WEIGHT: u8 = 15;
 
 // The weight of every symbol in plain hearing.
 const PLAIN_WEIGHT: u8 = 1;
-
-// What stands where no character is decided.
-pub const NONE: Character = Character {
-    code: 0,
-    lead: 0,
-    word: 0,
-    correlation: 0,
-    next: 0,
-    next_correlation: 0,
-};
 
 // The count of codes written, or the refusal.
 pub enum Decoded {
@@ -90,27 +80,6 @@ pub fn decide_block(mode: u32, least_lead: u32, tones: &[u16], room: usize) -> B
     )
 }
 
-// The decisions on the mode's characters by a block's symbols, none of which is missing; what is to count nothing has weight 0. Of a weight
-// the lowest four bits count. The rest of the eight are NONE, and all of them if there is no such mode.
-pub fn decide_symbols(mode: u32, symbols: &[u8; 64], weights: &[u8; 64]) -> [Character; 8]
-    ensures { λ r. ⌜ r ≡ padded (symbolCharacters mode (now (symbols .entry)) (now (weights .entry))) ⌝ }
-{
-    let mut characters = [NONE; 8];
-    if !checks::is_mode(mode) {
-        return characters;
-    }
-    let keys = scrambler::keys();
-    let values = chain::interleaver::values(mode);
-    let b = mode as usize;
-    let mut q: usize = 0;
-    while q < b {
-        let signs = signs::of_character(q, &keys, &values, symbols);
-        characters[q] = lead_finder::decide(signs, weights);
-        q += 1;
-    }
-    characters
-}
-
 // The answer for an output of room codes, where weights are 0 to greatest. A text goes to the front of codes.
 fn hear(
     greatest: u8,
@@ -151,7 +120,8 @@ fn hear(
         return refused(refusal::WEIGHT, bad_weight);
     }
     let heard = decode::heard_weights(tones, weights);
-    let characters = decide_symbols(mode, &symbols, &heard);
+    let values = interleaver::values(mode);
+    let characters = characters::decide(mode, 0, &values, &symbols, &heard);
     let answer = judge(b, least_lead, characters);
     match answer {
         Decoded::Text(count) => decode::put_codes(count, characters, codes),

@@ -9,9 +9,9 @@ use lib.ListN.{getD}
 use lib.Signed.{natAbs-le}
 use mir.Syntax.{w32}
 use mir.Val.{Val, SFits}
+use Rattle.decision.specs.Decision.{none}
 use Rattle.decision.specs.declared.Character.{Character}
 use Rattle.decision.proofs.Character.{the-type}
-use Rattle.block_decoder.specs.Decoding.{none}
 use Rattle.block_report.proofs.TextBounds.{Small}
 
 pub held-small : (x : Character) (us : List Val) → shadow (row the-type .own x us) → Small x

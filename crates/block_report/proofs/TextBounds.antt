@@ -9,8 +9,8 @@ use Rattle.text.specs.Decimal.{field, signedField}
 use Rattle.text.proofs.Decimals.{field-length, field-length-32, signed-field-length}
 use Rattle.lists.specs.Lists.{tab}
 use Rattle.refusal.specs.declared.Refusal.{Refusal}
+use Rattle.decision.specs.Decision.{none}
 use Rattle.decision.specs.declared.Character.{Character}
-use Rattle.block_decoder.specs.Decoding.{none}
 use Rattle.block_report.specs.Lines.{placeText, decidedText, markedText, wordText, wordsText, characterText, charactersText}
 
 pub pair-length : (first second end : ℕ) → first < 2 ^ 64 → second < 2 ^ 64 → length (field first space ++ field second end) ≤ 42

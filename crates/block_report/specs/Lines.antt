@@ -8,8 +8,8 @@ use lib.ListN.{getD}
 use Rattle.text.specs.Ascii.{ascii, lineFeed, space}
 use Rattle.text.specs.Decimal.{field, signedField}
 use Rattle.refusal.specs.declared.Refusal.{Refusal}
+use Rattle.decision.specs.Decision.{none}
 use Rattle.decision.specs.declared.Character.{Character}
-use Rattle.block_decoder.specs.Decoding.{none}
 use Rattle.block_decoder.specs.declared.Decoded.{Decoded}
 use Rattle.block_decoder.specs.declared.BlockDecoded.{BlockDecoded}
 use Rattle.block_decoder.specs.declared.Decoded.the-variants.{Text, Refused}

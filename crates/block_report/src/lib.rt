@@ -2,15 +2,15 @@
 // written. Nothing is written to an output of less than report::ROOM bytes.
 use block_decoder::BlockDecoded;
 use block_decoder::Decoded;
-use block_decoder::NONE;
 use decision::Character;
+use decision::NONE;
 use refusal::Refusal;
 use report::ROOM;
 ghost use mathlib.Core.Path.{_≡_};
 ghost use Prim.Native.Nat.{_≤_, min};
 ghost use lib.ListN.{length, getD};
 ghost use Rattle.lists.specs.Lists.{over};
-ghost use Rattle.block_decoder.specs.Decoding.{none};
+ghost use Rattle.decision.specs.Decision.{none};
 ghost use Rattle.report.specs.Output.{fitting};
 ghost use Rattle.block_report.specs.Lines.{refusalText, blockText};
 

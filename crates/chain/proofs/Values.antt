@@ -1,13 +1,11 @@
 -- The values of the places round a symbol: the first eight, how all come of those, and the sum of a symbol's.
-use mathlib.Core.Path.{_≡_, refl, sym, _∙_, ap}
+use mathlib.Core.Path.{_≡_, refl, _∙_, ap, ap₂}
 use mathlib.Core.Bool.{Bool, true, false, cond}
 use mathlib.Core.List.{List}
-use Prim.Native.Nat.{ℕ, zero, suc, _+_, _-_, _*_, _<_, _≤_, _%_, _^_}
-use native.Mathlib.Nat.{mod-lt, mod-eq-of-lt, add-mod-left, one-mul, mod-mod-of-dvd, dvd-of-mod-eq-zero}
+use Prim.Native.Nat.{ℕ, zero, suc, _+_, _-_, _*_, _/_, _<_, _≤_, _%_, _^_}
+use native.Mathlib.Nat.{mod-lt, mod-mod-of-dvd, dvd-of-mod-eq-zero}
 use native.Mathlib.Omega.{arith}
-use lib.Dec.{lit<}
 use lib.ListN.{replicate}
-use lib.Pow.{shl-exact}
 use Rattle.lists.specs.Lists.{tab, num}
 use Rattle.lists.specs.Sums.{total}
 use Rattle.lists.proofs.Sums.{total-turned}
@@ -17,19 +15,18 @@ use Rattle.chain.specs.Tables.{placeValue, placeValues}
 use Rattle.chain.specs.Internal.{WholeRounds, again}
 use Rattle.chain.proofs.Binary.{number-below}
 
--- ---- the row of the first eight
+-- ---- the rows of all modes
 
--- the first b, as u8
-pub first-value : (b i : ℕ) → b ≤ 8 → i < b → 1 * 2 ^ i % 256 ≡ placeValue b i
-unfolding placeValue
-first-value b i high h =
-    shl-exact {a = 1} 1 i 8 (lit< tt) (omega arith) ∙ one-mul (2 ^ i) ∙ ap (λ (n : ℕ). 2 ^ n) (sym (mod-eq-of-lt h))
+-- the value of place i of mode b stands at 8 * (b - 1) + i
+unfoldable pub rowValue : ℕ → ℕ
+rowValue k = placeValue (k / 8 + 1) (k % 8)
 
--- the others, from b places before
-pub value-round : (b i : ℕ) → b ≤ i → placeValue b (i - b) ≡ placeValue b i
-unfolding placeValue
-value-round b i h =
-    ap (λ (n : ℕ). 2 ^ n) (sym (add-mod-left b (i - b)) ∙ ap (λ (n : ℕ). n % b) (let e : b + (i - b) ≡ i = omega arith in e))
+pub row-value : (b i : ℕ) (rows : List ℕ) → rows ≡ tab rowValue 64 → 1 ≤ b → b ≤ 8 → i < 8 → num rows (8 * (b - 1) + i) ≡ placeValue b i
+unfolding rowValue
+row-value b i rows e low high h =
+    let mode : (8 * (b - 1) + i) / 8 + 1 ≡ b = omega arith in
+    let place : (8 * (b - 1) + i) % 8 ≡ i = omega arith in
+    rw e (tab-at rowValue 0 64 (8 * (b - 1) + i) (omega arith)) ∙ ap₂ placeValue mode place
 
 -- ---- all of them
 

@@ -18,19 +18,85 @@ pub fn values(mode: u32) -> [u8; 72]
     front(rows(step(b), row(b)))
 }
 
+// The values of the first eight places of each mode, one mode after the other.
+const ROWS: [u8; 64] = [
+    1,
+    1,
+    1,
+    1,
+    1,
+    1,
+    1,
+    1,
+    1,
+    2,
+    1,
+    2,
+    1,
+    2,
+    1,
+    2,
+    1,
+    2,
+    4,
+    1,
+    2,
+    4,
+    1,
+    2,
+    1,
+    2,
+    4,
+    8,
+    1,
+    2,
+    4,
+    8,
+    1,
+    2,
+    4,
+    8,
+    16,
+    1,
+    2,
+    4,
+    1,
+    2,
+    4,
+    8,
+    16,
+    32,
+    1,
+    2,
+    1,
+    2,
+    4,
+    8,
+    16,
+    32,
+    64,
+    1,
+    1,
+    2,
+    4,
+    8,
+    16,
+    32,
+    64,
+    128,
+];
+
 // The values of the first eight places.
 fn row(b: usize) -> [u8; 8]
     requires { ⌜ (1 ≤ b) × (b ≤ 8) ⌝ }
     ensures { λ r. ⌜ r ≡ tab (placeValue b) 8 ⌝ }
 {
+    let rows = ROWS;
+    let from = 8 * (b - 1);
     let mut row = [0u8; 8];
     let mut i: usize = 0;
     while i < 8 {
-        if i < b {
-            row[i] = 1u8 << i;
-        } else {
-            row[i] = row[i - b];
-        }
+        row[i] = rows[from + i];
         i += 1;
     }
     row

@@ -9,20 +9,24 @@ use borrow.Author.Tests.{ltb-true, ne-eqb}
 use lib.Dec.{ltb}
 use lib.IntN.{pos}
 use lib.ListN.{length, set, replicate, length-replicate}
-use Rattle.lists.specs.Lists.{tab, num}
+use Rattle.lists.specs.Lists.{tab, num, over}
 use Rattle.lists.proofs.Fronts.{over-start, over-set, over-length, over-tab-at}
 use Rattle.lists.proofs.Tables.{tab-length, tab-at, tab-ext}
 use Rattle.refusal.specs.Checks.{isMode}
+use Rattle.refusal.proofs.Limits.{mode-range}
 use Rattle.walsh.specs.Words.{signed, turned}
 use Rattle.walsh.proofs.Signed.{signed-zero}
+use Rattle.decision.specs.Decision.{none}
 use Rattle.decision.specs.declared.Character.{Character}
 use Rattle.decision.proofs.Choice.{counts-decide}
 use Rattle.chain.specs.Chain.{bit, keyBit, missingMark}
-use Rattle.chain.specs.Tables.{symbolOf}
+use Rattle.chain.specs.Tables.{symbolOf, placeValue}
 use Rattle.chain.proofs.GrayCodes.{symbol-marked}
+use Rattle.characters.specs.Symbols.{symbolCount, symbolCharacter, symbolCharacters}
+use Rattle.characters.proofs.Reached.{all-decided}
+use Rattle.characters.proofs.TableSigns.{place-count}
 use Rattle.weight_range.proofs.Ranges.{weight-throughout}
-use Rattle.block_decoder.specs.Decoding.{plain, heardSymbol, symbolsOf, countOf, countIn, weightedAt, weightedOf, charactersOf, none, padded}
-use Rattle.block_decoder.specs.Symbols.{symbolCount, symbolCharacter, symbolCharacters}
+use Rattle.block_decoder.specs.Decoding.{plain, heardSymbol, symbolsOf, countOf, countIn, weightedAt, weightedOf, characterAt, charactersOf, padded}
 use Rattle.block_decoder.proofs.Counts.{heard-present, heard-missing, symbol-heard, count-missing, count-present}
 use Rattle.checked_block.specs.Checked.{toneBelow, tonesBelow, weightBelow}
 use Rattle.checked_block.specs.Internal.{symbolsTo, weightsBelow}
@@ -80,18 +84,24 @@ module _ (limit : ℕ) (tones : List ℕ) where
   unfolding weightsBelow
   weight-at t h = tab-at (λ k. weightBelow limit (num tones k)) 0 64 t h
 
-  module _ (small : limit ≤ 256) (n : length tones ≡ 64) where
-    same-count : (b q t : ℕ) → t < 64 → symbolCount b (symbolsTo tones 64) (weightsBelow limit tones) q t ≡ countIn b (symbolsOf (tonesBelow limit tones)) plain q t
-    unfolding symbolCount countIn
-    same-count b q t h =
-        ap₂ (λ (w s : ℕ). signed (turned (keyBit q t) (bit s ((q + t) % b))) (pos (w % 16))) (weight-at t h) (symbol-at t h)
+  module _ (small : limit ≤ 256) (n : length tones ≡ 64) (b : ℕ) (e : isMode b ≡ true) (values : List ℕ) (v : values ≡ tab (placeValue b) 72) where
+    same-count : (q t : ℕ) → q < b → t < 64 → symbolCount values (symbolsTo tones 64) (weightsBelow limit tones) q t ≡ countIn b (symbolsOf (tonesBelow limit tones)) plain q t
+    unfolding countIn
+    same-count q t h l =
+        place-count b values (symbolsTo tones 64) (weightsBelow limit tones) q t v (omega (arith, mode-range b e)) l
+        ∙ ap₂ (λ (w s : ℕ). signed (turned (keyBit q t) (bit s ((q + t) % b))) (pos (w % 16))) (weight-at t l) (symbol-at t l)
         ∙ count-of (keyBit q t) ((q + t) % b) limit (num tones t) small
-        ∙ sym (ap₂ (countOf (keyBit q t) ((q + t) % b)) (weight-throughout 1 t h) (symbol-heard (tonesBelow limit tones) t h ∙ ap heardSymbol (below-at limit tones t (omega arith))))
+        ∙ sym (ap₂ (countOf (keyBit q t) ((q + t) % b)) (weight-throughout 1 t l) (symbol-heard (tonesBelow limit tones) t l ∙ ap heardSymbol (below-at limit tones t (omega arith))))
 
-    pub same-characters : (b : ℕ) → isMode b ≡ true → symbolCharacters b (symbolsTo tones 64) (weightsBelow limit tones) ≡ charactersOf b (tonesBelow limit tones)
-    unfolding symbolCharacters symbolCharacter weightedOf weightedAt
-    same-characters b e = rw e (tab-ext none _ _ b (λ q h. counts-decide _ _ (same-count b q)))
+    pub same-character : (q : ℕ) → q < b → symbolCharacter values (symbolsTo tones 64) (weightsBelow limit tones) q ≡ characterAt b (tonesBelow limit tones) q
+    unfolding symbolCharacter weightedAt
+    same-character q h = counts-decide _ _ (λ t l. same-count q t h l)
 
-    pub same-found : (b : ℕ) (symbols weights : List ℕ) (found : List Character) → isMode b ≡ true → symbols ≡ symbolsTo tones 64 → weights ≡ weightsBelow limit tones
-        → found ≡ padded (symbolCharacters b symbols weights) → found ≡ padded (charactersOf b (tonesBelow limit tones))
-    same-found b symbols weights found e p q f = f ∙ ap padded (rw (p, q) (same-characters b e))
+    same-characters : symbolCharacters b 0 values (symbolsTo tones 64) (weightsBelow limit tones) ≡ charactersOf b (tonesBelow limit tones)
+    unfolding weightedOf
+    same-characters = all-decided b values (symbolsTo tones 64) (weightsBelow limit tones) e ∙ tab-ext none _ _ b same-character
+
+    pub same-found : (symbols weights : List ℕ) (found : List Character) → symbols ≡ symbolsTo tones 64 → weights ≡ weightsBelow limit tones
+        → found ≡ over (symbolCharacters b 0 values symbols weights) (replicate 8 none) → found ≡ padded (charactersOf b (tonesBelow limit tones))
+    unfolding padded
+    same-found symbols weights found p q f = f ∙ ap (λ (x : List Character). over x (replicate 8 none)) (rw (p, q) same-characters)

@@ -1,6 +1,7 @@
 // A block of a message, decoded: its tones were checked before, with all of the message, and its records are not told.
 use block_decoder::Decoded;
 use chain::gray;
+use chain::interleaver;
 use refusal::Refusal;
 use refusal::checks;
 ghost use mathlib.Core.Path.{_≡_};
@@ -46,7 +47,8 @@ fn decide(mode: u32, least_lead: u32, tones: &[u16], codes: &mut [u8]) -> Decode
     let mut symbols = [0u8; 64];
     put_symbols(tones, &mut symbols);
     let weights = weights(checks::tone_count(mode), tones);
-    let characters = block_decoder::decide_symbols(mode, &symbols, &weights);
+    let values = interleaver::values(mode);
+    let characters = characters::decide(mode, 0, &values, &symbols, &weights);
     let b = mode as usize;
     let mut q: usize = 0;
     while q < b {

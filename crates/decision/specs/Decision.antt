@@ -44,3 +44,7 @@ decisionFor r w v = record {
 -- the decision is for the best of the 64 words
 unfoldable pub decision : (ℕ → ℤ) → Character
 decision r = decisionFor r (best r 64) (runnerUp r (best r 64))
+
+-- what stands where no character is decided
+abbrev pub none : Character
+none = record { code = 0; lead = 0; word = 0; correlation = pos 0; next = 0; «next_correlation» = pos 0 }

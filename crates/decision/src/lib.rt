@@ -11,3 +11,13 @@ pub struct Character {
     pub next: u32,
     pub next_correlation: i32,
 }
+
+// What stands where no character is decided.
+pub const NONE: Character = Character {
+    code: 0,
+    lead: 0,
+    word: 0,
+    correlation: 0,
+    next: 0,
+    next_correlation: 0,
+};

@@ -14,6 +14,7 @@ use Rattle.lists.proofs.Tables.{tab-ext}
 use Rattle.refusal.specs.Checks.{isLeadAt, isMode}
 use Rattle.refusal.proofs.Limits.{within-range, mode-range}
 use Rattle.damage.specs.Laws.{Withstands}
+use Rattle.decision.specs.Decision.{none}
 use Rattle.decision.specs.declared.Character.{Character}
 use Rattle.damage.proofs.Drift.{damage-law}
 use Rattle.chain.specs.Chain.{tonesOf}
@@ -23,7 +24,7 @@ use Rattle.weight_range.specs.Range.{HasWeights, throughout}
 use Rattle.weight_range.proofs.Ranges.{has-throughout}
 use Rattle.block_encoder.specs.Encoding.{IsText}
 use Rattle.block_encoder.proofs.EncodeCases.{tones-written}
-use Rattle.block_decoder.specs.Decoding.{plain, symbolsOf, countIn, weightedAt, weightedOf, characterAt, none, leadIn, firstUnclear, padded, heardBlock, heardBlockInto}
+use Rattle.block_decoder.specs.Decoding.{plain, symbolsOf, countIn, weightedAt, weightedOf, characterAt, leadIn, firstUnclear, padded, heardBlock, heardBlockInto}
 use Rattle.block_decoder.specs.declared.BlockDecoded.{BlockDecoded}
 use Rattle.block_decoder.proofs.Characters.{characters-length, character-at}
 use Rattle.block_decoder.proofs.Clarity.{all-clear, clear-lead}

@@ -10,8 +10,9 @@ use lib.ListN.{length, take, drop, replicate}
 use Rattle.refusal.specs.declared.Refusal.{Refusal}
 use Rattle.refusal.specs.Refused.{refusedAt}
 use Rattle.refusal.specs.Checks.{isMode, isLead, IsSet}
+use Rattle.decision.specs.Decision.{none}
 use Rattle.tone_range.specs.Range.{firstBadTone}
-use Rattle.block_decoder.specs.Decoding.{none, decodeBlock, decodedInto}
+use Rattle.block_decoder.specs.Decoding.{decodeBlock, decodedInto}
 use Rattle.block_decoder.specs.declared.BlockDecoded.{BlockDecoded}
 use Rattle.search.specs.Starts.{starts}
 use Rattle.finder.specs.declared.Finding.{Finding}

@@ -8,9 +8,10 @@ use lib.ListN.{length, replicate}
 use Rattle.lists.specs.Places.{first}
 use Rattle.refusal.specs.Refused.{refusedAt}
 use Rattle.refusal.specs.Checks.{within, isMode, isLead}
+use Rattle.decision.specs.Decision.{none}
 use Rattle.decision.specs.declared.Character.{Character}
 use Rattle.tone_range.specs.Range.{firstBadTone}
-use Rattle.block_decoder.specs.Decoding.{none, decodeBlock, decodedInto}
+use Rattle.block_decoder.specs.Decoding.{decodeBlock, decodedInto}
 use Rattle.search.specs.Starts.{longestRun, stretchAt, starts, isText}
 use Rattle.finder.specs.declared.Finding.{Finding}
 use Rattle.finder.specs.declared.Finding.the-variants.{Start, Refused}

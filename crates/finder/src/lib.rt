@@ -1,6 +1,6 @@
 // The first block in a long run of tones whose start is unknown: document 02, order 1.
-use block_decoder::NONE;
 use decision::Character;
+use decision::NONE;
 use refusal::Refusal;
 use refusal::checks;
 use search::LONGEST_RUN;

@@ -1,4 +1,4 @@
--- The laws of finding a block: document 02, order 1. Each is the promise of the function of the same name in src/lib.rt.
+-- The laws of finding a block: document 02, order 1. Each is the promise of the function of the same name in src/laws.rt.
 use mathlib.Core.Bool.{true}
 use mathlib.Core.List.{List}
 use mathlib.Core.Path.{_≡_}

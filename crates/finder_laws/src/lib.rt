@@ -1,10 +1,2 @@
-// The laws of finding a block, stated in specs/Laws.antt. A function here does nothing: its promise is the law.
-ghost use Rattle.finder_laws.specs.Laws.{FirstBlock, SentBlock};
-
-pub fn first_block()
-    ensures { λ _. ⌜ FirstBlock ⌝ }
-{}
-
-pub fn sent_block()
-    ensures { λ _. ⌜ SentBlock ⌝ }
-{}
+// What finding a block means: of what decoding each stretch of a run gives, and of a block that was sent. Laws, and no code.
+pub mod laws;

@@ -1,11 +1,11 @@
 -- A front written over a list: a turn of the loop that writes it, what the list holds, mapped, and one front after another.
 use mathlib.Core.Path.{_≡_, refl, sym, _∙_, ap}
 use mathlib.Core.List.{List, [], _∷_, _++_, map, append-assoc, append-nil, map-append}
-use Prim.Native.Nat.{ℕ, zero, suc, _+_, _<_, _≤_}
+use Prim.Native.Nat.{ℕ, zero, suc, _+_, _-_, _<_, _≤_}
 use native.Mathlib.Numerals.{add-one}
 use native.Mathlib.Omega.{arith}
 use lib.ListN.{length, getD, set, take, drop, length-append, length-drop, length-map, drop-of-length-le, List·getD-append}
-use lib.Seq.{drop-cons, drop-drop, set-at, getD-at, take-at, drop-at}
+use lib.Seq.{drop-cons, drop-drop, getD-drop, getD-append-add, set-at, take-at, drop-at}
 use Rattle.lists.specs.Lists.{tab, over}
 use Rattle.lists.proofs.Tables.{tab-length, tab-at}
 
@@ -30,10 +30,16 @@ over-more z f n d h = rw add-one (over-one z (tab f n) d n (f n) (tab-length f n
 pub over-set : {A : Type 0} (z : A) (f : ℕ → A) (n : ℕ) (d x : List A) (v : A) → n < length d → x ≡ over (tab f n) d → v ≡ f n → set x n v ≡ over (tab f (n + 1)) d
 over-set z f n d x v h p q = rw (p, q) (over-more z f n d h)
 
--- the place after the front is as it was
-pub over-next : {A : Type 0} (f : ℕ → A) (z : A) (n : ℕ) (d : List A) → n < length d → getD (over (tab f n) d) n z ≡ getD d n z
+-- a place past the front is as it was
+pub over-past : {A : Type 0} (f : ℕ → A) (z : A) (n : ℕ) (d : List A) (i : ℕ) → n ≤ i → getD (over (tab f n) d) i z ≡ getD d i z
 unfolding over
-over-next f z n d h = rw (tab-length f n, drop-cons d n z h) (getD-at (tab f n) (getD d n z) (drop (suc n) d) z n (tab-length f n))
+over-past f z n d i h =
+    let place : i ≡ length (tab f n) + (i - n) = omega (arith, tab-length f n) in
+    let back : length (tab f n) + (i - n) ≡ i = sym place in
+    ap (λ (k : ℕ). getD (tab f n ++ drop (length (tab f n)) d) k z) place
+    ∙ getD-append-add (tab f n) (drop (length (tab f n)) d) (i - n) z
+    ∙ getD-drop (length (tab f n)) d (i - n) z
+    ∙ ap (λ (k : ℕ). getD d k z) back
 
 pub over-tab-at : {A : Type 0} (f : ℕ → A) (z : A) (n : ℕ) (d : List A) (i : ℕ) → i < n → getD (over (tab f n) d) i z ≡ f i
 unfolding over

@@ -5,8 +5,9 @@ use Prim.Native.Nat.{ℕ, _+_, _*_, _/_, _<_, _≤_}
 use lib.ListN.{length, getD}
 use Rattle.lists.specs.Lists.{joined}
 use Rattle.lists.proofs.Joins.{joined-map, joined-length, joined-before, joined-at}
+use Rattle.decision.specs.Decision.{none}
 use Rattle.decision.specs.declared.Character.{Character}
-use Rattle.block_decoder.specs.Decoding.{plain, none, charactersOf, codesOf}
+use Rattle.block_decoder.specs.Decoding.{plain, charactersOf, codesOf}
 use Rattle.block_decoder.proofs.Characters.{characters-length, codes-length}
 use Rattle.message_encoder.specs.Blocks.{blockAt}
 use Rattle.message_decoder.specs.Decoding.{heardCharacters, messageCharacters}

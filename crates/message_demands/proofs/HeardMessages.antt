@@ -13,11 +13,12 @@ use Rattle.lists.specs.Lists.{joined, num}
 use Rattle.lists.proofs.Joins.{joined-ext, joined-each}
 use Rattle.refusal.specs.Refused.{unclearAt}
 use Rattle.refusal.proofs.Limits.{mode-range}
+use Rattle.decision.specs.Decision.{none}
 use Rattle.decision.specs.declared.Character.{Character}
 use Rattle.weight_range.proofs.Ranges.{has-throughout}
 use Rattle.tone_range.specs.Range.{HasTones}
 use Rattle.tone_range.proofs.Ranges.{good-tone, good-tones}
-use Rattle.block_decoder.specs.Decoding.{plain, none, charactersOf, codesOf, leadIn, firstUnclear, decodeBlock, heardInto}
+use Rattle.block_decoder.specs.Decoding.{plain, charactersOf, codesOf, leadIn, firstUnclear, decodeBlock, heardInto}
 use Rattle.block_decoder.specs.declared.Decoded.{Decoded}
 use Rattle.block_decoder.specs.declared.Decoded.the-variants.{Text, Refused}
 use Rattle.block_decoder.specs.declared.BlockDecoded.{BlockDecoded}

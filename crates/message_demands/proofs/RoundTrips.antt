@@ -12,10 +12,11 @@ use Rattle.lists.proofs.Joins.{joined-ext, joined-tab}
 use Rattle.lists.proofs.Tables.{tab-length, tab-at, tab-ext, tab-map, tab-take, tab-self}
 use Rattle.refusal.specs.Checks.{IsSet}
 use Rattle.refusal.proofs.Limits.{mode-range, lead-range}
+use Rattle.decision.specs.Decision.{none}
 use Rattle.decision.specs.declared.Character.{Character}
 use Rattle.block_encoder.specs.Encoding.{onAir, countSent}
 use Rattle.block_encoder.specs.declared.Encoded.the-variants.{Tones}
-use Rattle.block_decoder.specs.Decoding.{weightedOf, none, leadIn, characterAt, codesOf, firstUnclear, unlessUnclear}
+use Rattle.block_decoder.specs.Decoding.{weightedOf, leadIn, characterAt, codesOf, firstUnclear, unlessUnclear}
 use Rattle.block_decoder.specs.declared.Decoded.the-variants.{Text}
 use Rattle.block_decoder.proofs.Clarity.{all-clear, clear-told}
 use Rattle.demands.specs.Laws.{undamaged}

@@ -13,20 +13,20 @@ use Rattle.lists.specs.Lists.{tab, num, over}
 use Rattle.lists.specs.Places.{scan, first}
 use Rattle.lists.proofs.Fronts.{over-tab-whole}
 use Rattle.lists.proofs.Places.{first-ext, first-none}
-use Rattle.lists.proofs.Tables.{tab-length, tab-at}
 use Rattle.refusal.specs.Checks.{isMode, isLead, IsSet}
 use Rattle.refusal.proofs.Limits.{mode-range}
+use Rattle.decision.specs.Decision.{none}
 use Rattle.decision.specs.declared.Character.{Character}
-use Rattle.chain.specs.Tables.{symbolOf}
-use Rattle.block_decoder.specs.Decoding.{plain, none, charactersOf, firstUnclear, unlessUnclear, refused, decodeBlock}
-use Rattle.block_decoder.specs.Symbols.{symbolCharacter, symbolCharacters}
+use Rattle.chain.specs.Tables.{symbolOf, placeValue}
+use Rattle.block_decoder.specs.Decoding.{plain, charactersOf, leadIn, firstUnclear, unlessUnclear, refused, decodeBlock}
 use Rattle.block_decoder.specs.declared.Decoded.the-variants.{Text}
 use Rattle.block_decoder.specs.declared.BlockDecoded.{BlockDecoded}
 use Rattle.block_decoder.proofs.Answers.{decided}
+use Rattle.block_decoder.proofs.Characters.{characters-length, character-at}
 use Rattle.block_decoder.proofs.DecodeCases.{refuses-mode, refuses-lead}
 use Rattle.checked_block.specs.Checked.{tonesBelow, weightBelow, decodeChecked}
 use Rattle.checked_block.specs.Internal.{symbolsTo, weightsBelow}
-use Rattle.checked_block.proofs.CheckedCounts.{same-characters}
+use Rattle.checked_block.proofs.CheckedCounts.{same-character}
 use Rattle.checked_block.proofs.CheckedTones.{below-in-range}
 use Rattle.search.specs.Starts.{longestRun, stretchAt, starts, isText, acceptedAt, firstAccepted}
 use Rattle.search.specs.Internal.{clearBy}
@@ -44,31 +44,27 @@ accepts m characters n = by (decLt (firstUnclear m characters) (length character
         let h : length characters ≤ firstUnclear m characters = omega arith in
         rw (le-ltb (firstUnclear m characters) (length characters) h, le-leb (length characters) (firstUnclear m characters) h)
 
-all-clear : (b m : ℕ) (symbols weights : List ℕ) → isMode b ≡ true
-    → leb (length (symbolCharacters b symbols weights)) (firstUnclear m (symbolCharacters b symbols weights)) ≡ clearBy b m symbols weights
-unfolding firstUnclear symbolCharacters clearBy
-all-clear b m symbols weights e =
-    rw (e, tab-length (symbolCharacter b symbols weights) b)
-    (ap (leb b) (first-ext _ _ b (λ q h. ap (λ (c : Character). ltb (c .lead) m) (tab-at (symbolCharacter b symbols weights) none b q h))))
-
-module _ (b m : ℕ) (s : IsSet b m) where
-  clear-accepted : (tones : List ℕ) → length tones ≡ 64 → clearBy b m (symbolsTo tones 64) (weightsBelow (2 ^ b) tones) ≡ isText (decodeChecked b m tones b)
+module _ (b m : ℕ) (s : IsSet b m) (values : List ℕ) (v : values ≡ tab (placeValue b) 72) where
+  clear-accepted : (tones : List ℕ) → length tones ≡ 64 → clearBy b m values (symbolsTo tones 64) (weightsBelow (2 ^ b) tones) ≡ isText (decodeChecked b m tones b)
+  unfolding clearBy firstUnclear
   clear-accepted tones n =
       let few : 2 ^ b ≤ 256 = omega (arith, pow-mono {i = b} {j = 8} (mode-range b (s .mode) .1)) in
-      sym (all-clear b m _ _ (s .mode))
-      ∙ ap (λ (c : List Character). leb (length c) (firstUnclear m c)) (same-characters (2 ^ b) tones few n b (s .mode))
-      ∙ sym (accepts m (charactersOf b (tonesBelow (2 ^ b) tones)) b)
-      ∙ sym (ap (λ (d : BlockDecoded). isText (d .answer)) (decided b m (tonesBelow (2 ^ b) tones) b s (below-in-range (2 ^ b) tones n) (omega arith)))
+      let below = tonesBelow (2 ^ b) tones in
+      let same = same-character (2 ^ b) tones few n b (s .mode) values v in
+      ap (leb b) (first-ext _ _ b (λ q h. ap (λ (c : Character). ltb (c .lead) m) (same q h ∙ sym (character-at b below plain q h))))
+      ∙ ap (λ (k : ℕ). leb k (first (λ q. ltb (leadIn (charactersOf b below) q) m) k)) (sym (characters-length b below plain))
+      ∙ sym (accepts m (charactersOf b below) b)
+      ∙ sym (ap (λ (d : BlockDecoded). isText (d .answer)) (decided b m below b s (below-in-range (2 ^ b) tones n) (omega arith)))
 
   -- by the windows of the run's symbols and weights
   pub clear-there : (run kept-symbols kept-weights rest others symbols weights : List ℕ) (start : ℕ) → start + 64 ≤ length run
       → kept-symbols ≡ over (tab (λ t. symbolOf (num run t % 256)) (length run)) rest
       → kept-weights ≡ over (tab (λ t. weightBelow (2 ^ b) (num run t)) (length run)) others
       → symbols ≡ tab (λ t. num kept-symbols (start + t)) 64 → weights ≡ tab (λ t. num kept-weights (start + t)) 64
-      → clearBy b m symbols weights ≡ acceptedAt b m run start
+      → clearBy b m values symbols weights ≡ acceptedAt b m run start
   unfolding acceptedAt symbolsTo weightsBelow
   clear-there run kept-symbols kept-weights rest others symbols weights start inside p q e f =
-      ap₂ (clearBy b m)
+      ap₂ (clearBy b m values)
       (e ∙ window-kept run start inside (λ n. symbolOf (n % 256)) kept-symbols rest p ∙ sym (over-tab-whole (λ t. symbolOf (num (stretchAt run start) t % 256)) 64 (replicate 64 0) (lit≤ tt)))
       (f ∙ window-kept run start inside (weightBelow (2 ^ b)) kept-weights others q)
       ∙ clear-accepted (stretchAt run start) (stretch-length run start inside)

@@ -1,2 +1,3 @@
 pub mod Windows
 pub mod Clears
+pub mod Lasts

@@ -1,15 +1,14 @@
 // The search for a block whose start is unknown: document 02, order 1.
 use chain::gray;
-use chain::scrambler;
+use chain::interleaver;
 use refusal::checks;
 ghost use mathlib.Core.Path.{_≡_};
-ghost use mathlib.Core.Bool.{true};
 ghost use Prim.Native.Nat.{_+_, _≤_, _%_};
 ghost use lib.ListN.{length};
 ghost use Rattle.lists.specs.Lists.{tab, num, over};
 ghost use Rattle.lists.specs.Places.{first};
 ghost use Rattle.refusal.specs.Checks.{IsSet};
-ghost use Rattle.chain.specs.Tables.{symbolOf, keysAt, placeValue};
+ghost use Rattle.chain.specs.Tables.{symbolOf};
 ghost use Rattle.checked_block.specs.Checked.{weightBelow};
 ghost use Rattle.search.specs.Starts.{starts, acceptedAt, firstAccepted};
 ghost use Rattle.search.specs.Internal.{clearBy};
@@ -47,14 +46,13 @@ fn first_clear(mode: u32, least_lead: u32, run: &[u16]) -> usize
     put_symbols(run, &mut symbols);
     let mut weights = [0u8; 4096];
     put_weights(checks::tone_count(mode), run, &mut weights);
-    let keys = scrambler::keys();
-    let values = chain::interleaver::values(mode);
+    let values = interleaver::values(mode);
     let count = run.len() - 63;
     let mut start: usize = 0;
     while start < count {
         let heard = window(start, &symbols);
         let counting = window(start, &weights);
-        if is_clear(mode, least_lead, &keys, &values, &heard, &counting) {
+        if is_clear(mode, least_lead, &values, &heard, &counting) {
             return start;
         }
         start += 1;
@@ -101,28 +99,19 @@ fn window(start: usize, numbers: &[u8]) -> [u8; 64]
     window
 }
 
-// Whether the lead of every character of a block is at least least_lead.
+// Whether the lead of every character of a block is at least least_lead. If not, the last of the mode's is the first whose lead is under it, or it was
+// not decided, and its lead is 0.
 fn is_clear(
     mode: u32,
     least_lead: u32,
-    keys: &[u8; 64],
     values: &[u8; 72],
     symbols: &[u8; 64],
     weights: &[u8; 64],
 ) -> bool
-    requires mode { ⌜ mode ≤ 8 ⌝ }
-    requires tables { ⌜ (now keys ≡ tab keysAt 64) × (now values ≡ tab (placeValue mode) 72) ⌝ }
-    ensures { λ r. ⌜ r ≡ clearBy mode «least_lead» (now (symbols .entry)) (now (weights .entry)) ⌝ }
+    requires { ⌜ IsSet mode «least_lead» ⌝ }
+    ensures { λ r. ⌜ r ≡ clearBy mode «least_lead» (now (values .entry)) (now (symbols .entry)) (now (weights .entry)) ⌝ }
 {
-    let b = mode as usize;
-    let mut q: usize = 0;
-    while q < b {
-        let signs = signs::of_character(q, keys, values, symbols);
-        let character = lead_finder::decide(signs, weights);
-        if character.lead < least_lead {
-            return false;
-        }
-        q += 1;
-    }
-    true
+    let characters = characters::decide(mode, least_lead, values, symbols, weights);
+    let last = characters[mode as usize - 1];
+    least_lead <= last.lead
 }

@@ -4,10 +4,10 @@ use Prim.Native.Nat.{ℕ}
 use lib.ListN.{getD}
 use Rattle.lists.specs.Lists.{tab}
 use Rattle.refusal.specs.declared.Refusal.{Refusal}
+use Rattle.decision.specs.Decision.{none}
 use Rattle.decision.specs.declared.Character.{Character}
 use Rattle.block_encoder.specs.declared.Encoded.{Encoded}
 use Rattle.block_encoder.specs.declared.Encoded.the-variants as encoded
-use Rattle.block_decoder.specs.Decoding.{none}
 use Rattle.block_decoder.specs.declared.Decoded.{Decoded}
 use Rattle.block_decoder.specs.declared.Decoded.the-variants as decoded
 use Rattle.block_decoder.specs.declared.BlockDecoded.{BlockDecoded}

@@ -1,9 +1,9 @@
 // What C is told of each answer. A count or a place that 32 bits do not hold is capped.
 use block_decoder::BlockDecoded;
 use block_decoder::Decoded;
-use block_decoder::NONE;
 use block_encoder::Encoded;
 use decision::Character;
+use decision::NONE;
 use finder::BlockFound;
 use finder::Finding;
 use refusal::Refusal;

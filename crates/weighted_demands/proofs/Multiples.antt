@@ -19,6 +19,7 @@ use Rattle.refusal.specs.Checks.{isMode, isLeadAt}
 use Rattle.refusal.specs.Refused.{unclearAt}
 use Rattle.refusal.proofs.Limits.{within-true, below-low, above-high}
 use Rattle.walsh.specs.Words.{minus, signed, turned, corr}
+use Rattle.decision.specs.Decision.{none}
 use Rattle.decision.specs.declared.Character.{Character}
 use Rattle.decision.proofs.Choice.{same-character, counts-decide}
 use Rattle.scaling.specs.Scaled.{timesCharacter}
@@ -28,7 +29,7 @@ use Rattle.chain.specs.Chain.{missingMark, bit, keyBit}
 use Rattle.tone_range.specs.Range.{firstBadTone}
 use Rattle.weight_range.specs.Range.{throughout, firstBadWeight}
 use Rattle.weight_range.proofs.Ranges.{weights-in-range, has-throughout}
-use Rattle.block_decoder.specs.Decoding.{plain, symbolsOf, countOf, countIn, weightedAt, weightedOf, codesOf, none, leadIn, firstUnclear, unlessUnclear, padded, refused, heardBlock, heardInto, heardBlockInto}
+use Rattle.block_decoder.specs.Decoding.{plain, symbolsOf, countOf, countIn, weightedAt, weightedOf, codesOf, leadIn, firstUnclear, unlessUnclear, padded, refused, heardBlock, heardInto, heardBlockInto}
 use Rattle.block_decoder.specs.declared.Decoded.{Decoded}
 use Rattle.block_decoder.specs.declared.Decoded.the-variants.{Text, Refused}
 use Rattle.block_decoder.specs.declared.BlockDecoded.{BlockDecoded}

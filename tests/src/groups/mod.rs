@@ -4,6 +4,7 @@ pub mod cases;
 pub mod compare;
 mod damage;
 pub mod demand3;
+pub mod finding;
 mod heard;
 mod lent;
 pub mod listing;
@@ -12,6 +13,7 @@ pub mod range;
 mod receivers;
 pub mod records;
 pub mod sheet;
+mod tally;
 pub mod vectors;
 mod weighing;
 pub mod weight0;
@@ -19,7 +21,7 @@ pub mod weighted;
 pub mod weights;
 pub mod words;
 
-use olivia_tests::library::{Answer, Block, Character, Looked};
+use olivia_tests::library::{Answer, Block, Character, Found, Looked};
 use olivia_tests::paper::{self, Refusal};
 
 /// The lines that a group prints, or the first difference: the inputs, what was wanted, what was given.
@@ -76,6 +78,16 @@ fn looked_of(said: &paper::Looked) -> Looked {
         number,
         place,
         looked: said.looked as u64,
+    }
+}
+
+/// What the library tells of a search that stands for what the paper says of it.
+fn found_of(said: &paper::Finding) -> Found {
+    let Block { answer, characters } = block_of(&said.heard);
+    Found {
+        answer,
+        start: said.start as u32,
+        characters,
     }
 }
 

@@ -1,4 +1,4 @@
-//! Document 01 ("Olivia text link: from characters to tones and back"), with orders 2, 3 and 5 of document 02, written down a
+//! Document 01 ("Olivia text link: from characters to tones and back"), with orders 1, 2, 3 and 5 of document 02, written down a
 //! second time, to hold the library and the listing program against.
 //!
 //! Each function quotes the rule that it is. Nothing here is fast or shared with the library: a correlation is a sum over 64
@@ -6,6 +6,7 @@
 //! output that the entry would be lent.
 
 mod demand;
+mod finding;
 mod frequencies;
 mod hearing;
 mod listing;
@@ -18,6 +19,7 @@ mod weights;
 pub use demand::{
     damage, keeps_text, shuts_out_others, trial, weighted_trial, Trial, WeightedTrial,
 };
+pub use finding::{find_block, Finding, LONGEST_RUN};
 pub use frequencies::frequency;
 pub use hearing::{correlations, decode_block, symbol_of, Character, Heard, PLAIN};
 pub use listing::listed;

@@ -12,6 +12,7 @@ use Rattle.tone_range.specs.Range.{firstBadTone}
 use Rattle.tone_range.proofs.Ranges.{tones-most}
 use Rattle.weight_range.specs.Range.{HasWeights}
 use Rattle.weight_range.proofs.Ranges.{in-range-weights, fewer-weights}
+use Rattle.chain.proofs.Values.{mode-values}
 use Rattle.block_decoder.specs.Decoding.{weightedOf, padded, refused, heardBlock, heardInto}
 use Rattle.block_decoder.specs.Internal.{seenTo}
 use Rattle.block_decoder.specs.declared.Decoded.{Decoded}
@@ -143,23 +144,28 @@ weights-few c =
     let f = w .before .before .before in
     fewer-weights _ _ 15 (f .before .before .before .before .before .before .before .before .before .before .before .before .before .pre .0) (in-range-weights _ _ (passed (f .before .before .before) .weighed) (rw (w .first-bad-weight .ensures) at (c .if7 .left)))
 
-decide-symbols-requires : tie.Need-decide-symbols-requires
-decide-symbols-requires c κs = search needs
+values-requires : tie.Need-values-requires
+values-requires c κs = search needs
+
+decide-requires : tie.Need-decide-requires
+decide-requires c κs = search needs
 
 -- the decisions are those on the block's characters
-found : (c : tie.After-decide-symbols) → let a = c .before .before .before .before .before .before .before .before .before .before .before .before .before .before .before .before .before .before .before .before .before .args in c .decide-symbols .result ≡ padded (weightedOf (a .mode) (a .tones .now) (a .weights .now))
+found : (c : tie.After-decide) → let a = c .before .before .before .before .before .before .before .before .before .before .before .before .before .before .before .before .before .before .before .before .before .before .before .args in c .decide .result ≡ padded (weightedOf (a .mode) (a .tones .now) (a .weights .now))
 found c =
-    let h = c .before .before .before in
+    let v = c .before .before .before .before in
+    let h = v .before in
     let w = h .before .before in
-    seen-found _ _ (weights-few (h .before)) _ _ _ _ (passed (w .before .before .before .before .before .before) .mode) (symbols-seen w) (h .heard-weights .ensures) (c .decide-symbols .ensures)
+    let mode = passed (w .before .before .before .before .before .before) .mode in
+    seen-found _ _ (weights-few (h .before)) _ mode _ (v .values .ensures ∙ mode-values _ mode) _ _ _ (symbols-seen w) (h .heard-weights .ensures) (c .decide .ensures)
 
 judge-requires : tie.Need-judge-requires
-judge-requires c κs = mode-range _ (passed (c .before .before .before .before .before .before .before .before .before .before .before) .mode) .1
+judge-requires c κs = mode-range _ (passed (c .before .before .before .before .before .before .before .before .before .before .before .before .before) .mode) .1
 
 -- the answer where every check is passed
-decided : (c : tie.After-judge) → let a = c .before .before .before .before .before .before .before .before .before .before .before .before .before .before .before .before .before .before .before .before .before .before .args in _≡_ {A = BlockDecoded} (record { answer = c .judge .result; characters = c .before .decide-symbols .result }) (heardBlock (a .greatest) (a .mode) (a .least-lead) (a .tones .now) (a .weights .now) (a .room))
+decided : (c : tie.After-judge) → let a = c .before .before .before .before .before .before .before .before .before .before .before .before .before .before .before .before .before .before .before .before .before .before .before .before .args in _≡_ {A = BlockDecoded} (record { answer = c .judge .result; characters = c .before .decide .result }) (heardBlock (a .greatest) (a .mode) (a .least-lead) (a .tones .now) (a .weights .now) (a .room))
 decided c =
-    let h = c .before .before .before .before in
+    let h = c .before .before .before .before .before .before in
     let w = h .before .before in
     let f = w .before .before .before in
     same-decoded _ _ _ _ (c .judge .ensures) (found (c .before))
@@ -169,14 +175,14 @@ enum-known-answer : tie.Need-enum-known-answer
 enum-known-answer c = search needs
 
 -- its answer alone, where it is a text
-accepted-text : (c : tie.After-judge) {n : ℕ} → c .judge .result ≡ Text n → let a = c .before .before .before .before .before .before .before .before .before .before .before .before .before .before .before .before .before .before .before .before .before .before .args in heardBlock (a .greatest) (a .mode) (a .least-lead) (a .tones .now) (a .weights .now) (a .room) .answer ≡ Text n
+accepted-text : (c : tie.After-judge) {n : ℕ} → c .judge .result ≡ Text n → let a = c .before .before .before .before .before .before .before .before .before .before .before .before .before .before .before .before .before .before .before .before .before .before .before .before .args in heardBlock (a .greatest) (a .mode) (a .least-lead) (a .tones .now) (a .weights .now) (a .room) .answer ≡ Text n
 accepted-text c e = ap (λ (x : BlockDecoded). x .answer) (sym (decided c)) ∙ e
 
 put-codes-requires : tie.Need-put-codes-requires
 put-codes-requires c κs =
     let a = c .before .before in
     let d = a .before .before in
-    let s = d .before .before .before .before .before .before .before .before .before .before .before .before .before .before .before .before .before .before .before .before .before .before in
+    let s = d .before .before .before .before .before .before .before .before .before .before .before .before .before .before .before .before .before .before .before .before .before .before .before .before in
     let told = accepted _ _ _ _ _ _ _ (accepted-text d (a .answer .given .1)) in
     let few : a .answer .given .0 .0 ≤ 8 = omega (arith, told .whole, mode-range (s .args .mode) (told .passed .mode) .1) in
     (omega (arith, few), omega (arith, s .pre .1 _ few (omega (arith, told .whole, told .passed .fits))))
@@ -193,7 +199,7 @@ returns-8 c =
     let a = p .before .before .before in
     let d = a .before .before in
     let e = a .answer .given .1 in (
-      ap (λ (x : Decoded). record { answer = x; characters = d .before .decide-symbols .result }) (sym e) ∙ decided d,
+      ap (λ (x : Decoded). record { answer = x; characters = d .before .decide .result }) (sym e) ∙ decided d,
       codes-put _ _ _ _ _ _ _ _ _ _ (accepted-text d e) (found (d .before)) (p .put-codes .ensures),
     )
 
@@ -228,7 +234,8 @@ hear-spec =
     refused-requires-7
     returns-7
     heard-weights-requires
-    decide-symbols-requires
+    values-requires
+    decide-requires
     judge-requires
     enum-known-answer
     put-codes-requires

@@ -2,7 +2,7 @@ use mathlib.Core.Path.{refl, sym}
 use native.Mathlib.Omega.{arith}
 use lib.ListN.{List·getD-eq-default}
 use borrow.Author.Needs.{needs}
-use Rattle.block_decoder.specs.Decoding.{none}
+use Rattle.decision.specs.Decision.{none}
 use Rattle.block_report.proofs.character_at.Statement.{statement}
 use Rattle.block_report.proofs.character_at.Tie as tie
 

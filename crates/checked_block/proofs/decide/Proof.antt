@@ -11,6 +11,7 @@ use Rattle.lists.specs.Places.{scan}
 use Rattle.lists.proofs.Fronts.{over-start, over-set}
 use Rattle.lists.proofs.Places.{scan-start, scan-hit, scan-miss, scan-end}
 use Rattle.refusal.proofs.Limits.{mode-range, mode-tones}
+use Rattle.chain.proofs.Values.{mode-values}
 use Rattle.block_decoder.specs.Decoding.{charactersOf, leadIn, padded, heardInto}
 use Rattle.block_decoder.specs.Internal.{codeIn, firstUnclearIn}
 use Rattle.block_decoder.specs.declared.Decoded.the-variants.{Refused}
@@ -47,25 +48,29 @@ tone-count-requires c κs = search needs
 weights-requires : tie.Need-weights-requires Inv-loop μ-loop Inv-loop2 μ-loop2
 weights-requires c κs = c .before .before .before .before .before .before .pre .1
 
-decide-symbols-requires : tie.Need-decide-symbols-requires Inv-loop μ-loop Inv-loop2 μ-loop2
-decide-symbols-requires c κs = search needs
+values-requires : tie.Need-values-requires Inv-loop μ-loop Inv-loop2 μ-loop2
+values-requires c κs = search needs
+
+decide-requires : tie.Need-decide-requires Inv-loop μ-loop Inv-loop2 μ-loop2
+decide-requires c κs = search needs
 
 -- the decisions are those on the tones of the mode
-found : (d : tie.After-decide-symbols Inv-loop μ-loop Inv-loop2 μ-loop2) → let a = d .before .before .before .before .before .before .before .before .before .before .args in d .decide-symbols .result ≡ padded (charactersOf (a .mode) (tonesBelow (2 ^ a .mode) (a .tones .now)))
+found : (d : tie.After-decide Inv-loop μ-loop Inv-loop2 μ-loop2) → let a = d .before .before .before .before .before .before .before .before .before .before .before .before .args in d .decide .result ≡ padded (charactersOf (a .mode) (tonesBelow (2 ^ a .mode) (a .tones .now)))
 found d =
-    let w = d .before .before .before in
+    let v = d .before .before .before .before in
+    let w = v .before in
     let p = w .before .before .before in
     let s = p .before .before .before .before in
     let a = s .args in
     let mode = s .pre .0 in
-    same-found (2 ^ a .mode) (a .tones .now) (omega (arith, pow-mono {i = a .mode} {j = 8} (mode-range (a .mode) mode .1))) (s .pre .1) (a .mode) _ _ _ mode
+    same-found (2 ^ a .mode) (a .tones .now) (omega (arith, pow-mono {i = a .mode} {j = 8} (mode-range (a .mode) mode .1))) (s .pre .1) (a .mode) mode _ (v .values .ensures ∙ mode-values (a .mode) mode) _ _ _
     (p .put-symbols .ensures)
     (w .weights .ensures ∙ ap (λ (limit : ℕ). weightsBelow limit (a .tones .now)) (w .before .tone-count .ensures ∙ mode-tones (a .mode) mode))
-    (d .decide-symbols .ensures)
+    (d .decide .ensures)
 
 loop-holds : tie.Need-loop-holds Inv-loop μ-loop Inv-loop2 μ-loop2
 unfolding firstUnclearIn
-loop-holds c = (mode-range _ (c .before .before .before .before .before .before .before .before .before .before .pre .0) .1, search needs, scan-start _ _)
+loop-holds c = (mode-range _ (c .before .before .before .before .before .before .before .before .before .before .before .before .pre .0) .1, search needs, scan-start _ _)
 
 mul-character : tie.Need-mul-character Inv-loop μ-loop Inv-loop2 μ-loop2
 mul-character c = search needs
@@ -81,10 +86,10 @@ unfolding heardInto
 returns c =
     let l = c .before .before .before .before .before in
     let d = l .before in
-    let a = d .before .before .before .before .before .before .before .before .before .before .args in
+    let a = d .before .before .before .before .before .before .before .before .before .before .before .before .args in
     let inside = c .before .before .before .before .loop-test .taken in
-    let here = sym (l .loop .inv .2) ∙ scan-hit _ (l .loop .q) _ inside (lt-ltb (leadIn (d .decide-symbols .result) (l .loop .q)) (a .least-lead) (c .before .if1 .taken)) in
-    (ap Refused (c .unclear .ensures) ∙ sym (unclear-told (a .mode) (a .least-lead) _ (d .decide-symbols .result) (found d) (l .loop .q) inside here), refl)
+    let here = sym (l .loop .inv .2) ∙ scan-hit _ (l .loop .q) _ inside (lt-ltb (leadIn (d .decide .result) (l .loop .q)) (a .least-lead) (c .before .if1 .taken)) in
+    (ap Refused (c .unclear .ensures) ∙ sym (unclear-told (a .mode) (a .least-lead) _ (d .decide .result) (found d) (l .loop .q) inside here), refl)
 
 add-q : tie.Need-add-q Inv-loop μ-loop Inv-loop2 μ-loop2
 add-q c = search needs
@@ -107,7 +112,7 @@ array-copy-out-character-2 : tie.Need-array-copy-out-character-2 Inv-loop μ-loo
 array-copy-out-character-2 c = search needs
 
 slice-write-codes : tie.Need-slice-write-codes Inv-loop μ-loop Inv-loop2 μ-loop2
-slice-write-codes c = omega (arith, c .before .loop2-test .taken, c .before .before .loop2 .inv .2, c .before .before .before .before .before .before .before .before .before .before .before .before .before .before .before .pre .2)
+slice-write-codes c = omega (arith, c .before .loop2-test .taken, c .before .before .loop2 .inv .2, c .before .before .before .before .before .before .before .before .before .before .before .before .before .before .before .before .before .pre .2)
 
 add-written : tie.Need-add-written Inv-loop μ-loop Inv-loop2 μ-loop2
 add-written c = search needs
@@ -118,7 +123,7 @@ loop2-less c = search needs
 loop2-again : tie.Need-loop2-again Inv-loop μ-loop Inv-loop2 μ-loop2
 loop2-again c =
     let l = c .before .before .loop2 in
-    (l .inv .0, search needs, simp length-set (l .inv .2), over-set 0 _ (l .written) _ _ _ (omega (arith, c .before .loop2-test .taken, l .inv .2, c .before .before .before .before .before .before .before .before .before .before .before .before .before .before .before .pre .2)) (l .inv .3) refl)
+    (l .inv .0, search needs, simp length-set (l .inv .2), over-set 0 _ (l .written) _ _ _ (omega (arith, c .before .loop2-test .taken, l .inv .2, c .before .before .before .before .before .before .before .before .before .before .before .before .before .before .before .before .before .pre .2)) (l .inv .3) refl)
 
 same-length : tie.Need-same-length Inv-loop μ-loop Inv-loop2 μ-loop2
 same-length c = c .before .loop2 .inv .2
@@ -128,12 +133,12 @@ returns-2 c =
     let w = c .before in
     let l = w .before .before in
     let d = l .before in
-    let a = d .before .before .before .before .before .before .before .before .before .before .args in
+    let a = d .before .before .before .before .before .before .before .before .before .before .before .before .args in
     let done : w .loop2 .written ≡ a .mode = omega arith in
-    let clear : firstUnclearIn (a .mode) (a .least-lead) (d .decide-symbols .result) ≡ a .mode = sym (l .loop .inv .2) ∙ scan-end _ (l .loop .q) _ (w .before .loop-test .left) ∙ omega arith in
+    let clear : firstUnclearIn (a .mode) (a .least-lead) (d .decide .result) ≡ a .mode = sym (l .loop .inv .2) ∙ scan-end _ (l .loop .q) _ (w .before .loop-test .left) ∙ omega arith in
     rw done (
-      sym (clear-told (a .mode) (a .least-lead) _ (d .decide-symbols .result) (found d) clear),
-      text-put (a .mode) (a .least-lead) _ (d .decide-symbols .result) (found d) (a .codes .now) (w .loop2 .codes) (rw done at (w .loop2 .inv .3)),
+      sym (clear-told (a .mode) (a .least-lead) _ (d .decide .result) (found d) clear),
+      text-put (a .mode) (a .least-lead) _ (d .decide .result) (found d) (a .codes .now) (w .loop2 .codes) (rw done at (w .loop2 .inv .3)),
     )
 
 pub decide-spec : {M : Type 1} → statement M
@@ -148,7 +153,8 @@ decide-spec =
     put-symbols-requires
     tone-count-requires
     weights-requires
-    decide-symbols-requires
+    values-requires
+    decide-requires
     loop-holds
     mul-character
     array-copy-out-character

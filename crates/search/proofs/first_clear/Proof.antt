@@ -6,7 +6,7 @@ use borrow.Author.Needs.{needs}
 use Rattle.lists.specs.Lists.{tab, num, over}
 use Rattle.lists.specs.Places.{scan, first}
 use Rattle.lists.proofs.Places.{scan-start, scan-hit, scan-miss, scan-end}
-use Rattle.refusal.proofs.Limits.{mode-range, mode-tones}
+use Rattle.refusal.proofs.Limits.{mode-tones}
 use Rattle.chain.proofs.Values.{mode-values}
 use Rattle.checked_block.specs.Checked.{weightBelow}
 use Rattle.search.specs.Starts.{starts, acceptedAt}
@@ -15,11 +15,11 @@ use Rattle.search.proofs.first_clear.Statement.{statement}
 use Rattle.search.proofs.first_clear.Tie as tie
 
 abbrev Inv-loop : tie.InvT-loop
-Inv-loop mode least-lead run symbols weights keys values count start₀ start =
+Inv-loop mode least-lead run symbols weights values count start₀ start =
     (start ≤ count) × (scan (acceptedAt mode least-lead run) start (count - start) ≡ first (acceptedAt mode least-lead run) (starts run))
 
 abbrev μ-loop : tie.MeasureT-loop
-μ-loop mode least-lead run symbols weights keys values count start₀ start = count - start
+μ-loop mode least-lead run symbols weights values count start₀ start = count - start
 
 slice-aggregate-put-symbols : tie.Need-slice-aggregate-put-symbols Inv-loop μ-loop
 slice-aggregate-put-symbols c = search needs
@@ -35,9 +35,6 @@ slice-aggregate-put-weights c = search needs
 
 put-weights-requires : tie.Need-put-weights-requires Inv-loop μ-loop
 put-weights-requires c κs = search needs
-
-keys-requires : tie.Need-keys-requires Inv-loop μ-loop
-keys-requires c κs = search needs
 
 values-requires : tie.Need-values-requires Inv-loop μ-loop
 values-requires c κs = search needs
@@ -61,29 +58,28 @@ window-requires-2 : tie.Need-window-requires-2 Inv-loop μ-loop
 window-requires-2 c κs = search needs
 
 is-clear-requires : tie.Need-is-clear-requires Inv-loop μ-loop
-is-clear-requires c κs =
-    let l = c .before .before .before .before .before .before .before .before .before in
-    let mode = l .before .before .before .before .before .before .before .before .before .before .before .pre .0 .mode in
-    (mode-range _ mode .1, (l .before .before .keys .ensures, l .before .values .ensures ∙ mode-values _ mode))
+is-clear-requires c κs = c .before .before .before .before .before .before .before .before .before .before .before .before .before .before .before .before .before .before .pre .0
 
 -- the test is whether the 64 tones from the start on are accepted
-there : (c : tie.After-is-clear Inv-loop μ-loop) → let l = c .before .before .before .before .before .before .before .before .before .before in let a = l .before .before .before .before .before .before .before .before .before .before .before .args in c .is-clear .result ≡ acceptedAt (a .mode) (a .least-lead) (a .run .now) (l .loop .start)
+there : (c : tie.After-is-clear Inv-loop μ-loop) → let l = c .before .before .before .before .before .before .before .before .before in let a = l .before .before .before .before .before .before .before .before .before .before .args in c .is-clear .result ≡ acceptedAt (a .mode) (a .least-lead) (a .run .now) (l .loop .start)
 there c =
-    let l = c .before .before .before .before .before .before .before .before .before .before in
-    let w = l .before .before .before .before in
+    let l = c .before .before .before .before .before .before .before .before .before in
+    let w = l .before .before .before in
     let s = w .before .before .before .before .before .before .before in
     let a = s .args in
-    let limit = w .before .before .tone-count .ensures ∙ mode-tones (a .mode) (s .pre .0 .mode) in
+    let mode = s .pre .0 .mode in
+    let limit = w .before .before .tone-count .ensures ∙ mode-tones (a .mode) mode in
     c .is-clear .ensures
-    ∙ clear-there (a .mode) (a .least-lead) (s .pre .0) (a .run .now) _ _ (replicate 4096 0) (replicate 4096 0) _ _ (l .loop .start) (omega (arith, c .before .before .before .before .before .before .before .before .before .loop-test .taken, s .pre .1 .0))
+    ∙ clear-there (a .mode) (a .least-lead) (s .pre .0) _ (l .before .values .ensures ∙ mode-values (a .mode) mode) (a .run .now) _ _ (replicate 4096 0) (replicate 4096 0) _ _ (l .loop .start)
+    (omega (arith, c .before .before .before .before .before .before .before .before .loop-test .taken, s .pre .1 .0))
     (w .before .before .before .before .put-symbols .ensures)
     (w .put-weights .ensures ∙ ap (λ (n : ℕ). over (tab (λ t. weightBelow n (num (a .run .now) t)) (length (a .run .now))) (replicate 4096 0)) limit)
-    (c .before .before .before .before .before .before .before .window .ensures)
-    (c .before .before .before .before .before .window2 .ensures)
+    (c .before .before .before .before .before .before .window .ensures)
+    (c .before .before .before .before .window2 .ensures)
 
 returns : tie.Need-returns Inv-loop μ-loop
 returns c =
-    let i = c .before .before .before .before .before .before .before .before .before .before in
+    let i = c .before .before .before .before .before .before .before .before .before in
     let l = i .before in
     sym (scan-hit _ (l .loop .start) _ (i .loop-test .taken) (sym (there (c .before)) ∙ c .if1 .taken)) ∙ l .loop .inv .1
 
@@ -95,7 +91,7 @@ loop-less c = search needs
 
 loop-again : tie.Need-loop-again Inv-loop μ-loop
 loop-again c =
-    let i = c .before .before .before .before .before .before .before .before .before .before in
+    let i = c .before .before .before .before .before .before .before .before .before in
     let l = i .before in
     (search needs, scan-miss _ (l .loop .start) _ (i .loop-test .taken) (sym (there (c .before)) ∙ c .if1 .left) ∙ l .loop .inv .1)
 
@@ -113,7 +109,6 @@ first-clear-spec =
     tone-count-requires
     slice-aggregate-put-weights
     put-weights-requires
-    keys-requires
     values-requires
     sub-count
     loop-holds

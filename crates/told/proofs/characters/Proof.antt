@@ -5,7 +5,7 @@ use borrow.Author.Needs.{needs}
 use lib.ListN.{getD, replicate}
 use Rattle.lists.specs.Lists.{tab, over}
 use Rattle.lists.proofs.Fronts.{over-start, over-set, over-tab-whole}
-use Rattle.block_decoder.specs.Decoding.{none}
+use Rattle.decision.specs.Decision.{none}
 use Rattle.told.specs.Told.{characterTold, charactersTold}
 use Rattle.told.proofs.characters.Statement.{statement}
 use Rattle.told.proofs.characters.Tie as tie

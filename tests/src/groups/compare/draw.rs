@@ -124,7 +124,7 @@ pub fn heard(random: &mut Random, b: usize, codes: &[u8], least_lead: u32) -> Ve
     let m = least_lead as usize;
     let amount = match random.below(6) {
         0 => return paper::block_tones(b, codes),
-        1 => return noise(random, b),
+        1 => return noise(random, b, paper::SYMBOLS),
         2 | 3 => random.pick(&edges(|amount| amount.keeps_text(m))),
         4 => random.pick(&edges(|amount| amount.shuts_out_others(m))),
         _ => any_amount(random),
@@ -139,10 +139,11 @@ fn any_amount(random: &mut Random) -> Amount {
     Amount { replaced, missing }
 }
 
-fn noise(random: &mut Random, b: usize) -> Vec<u16> {
+/// So many tones of the mode at random, one in eight of them missing.
+pub fn noise(random: &mut Random, b: usize, length: usize) -> Vec<u16> {
     let tone = |random: &mut Random| match random.below(8) {
         0 => paper::MISSING,
         _ => random.below(paper::tone_count(b)) as u16,
     };
-    (0..paper::SYMBOLS).map(|_| tone(random)).collect()
+    (0..length).map(|_| tone(random)).collect()
 }

@@ -2,8 +2,8 @@
 
 use super::super::compare::range::spoil;
 use super::super::compare::{draw, weighted};
+use super::super::tally::Tally;
 use super::super::{expect_equal, lent::Lent, Report};
-use super::tally::Tally;
 use super::{check, refused, told};
 use olivia_tests::library::{self, Block};
 use olivia_tests::paper::SYMBOLS;

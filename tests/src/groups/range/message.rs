@@ -4,8 +4,8 @@
 use super::super::compare::draw;
 use super::super::compare::range::spoil;
 use super::super::damage::even_missing;
+use super::super::tally::Tally;
 use super::super::{expect_equal, lent::Lent, Report};
-use super::tally::Tally;
 use super::{check, refused, told};
 use olivia_tests::library::{self, Answer};
 use olivia_tests::paper::{block_count, block_tones, LONGEST_MESSAGE, MISSING, SYMBOLS};

@@ -4,7 +4,6 @@
 mod block;
 mod cases;
 mod message;
-mod tally;
 
 use super::{lent::Lent, Report};
 use olivia_tests::library::{self, Answer, Looked};

@@ -7,7 +7,7 @@ use borrow.Author.Needs.{needs}
 use Rattle.lists.specs.Sums.{total}
 use Rattle.lists.specs.Lists.{tab, num, over}
 use Rattle.lists.proofs.Tables.{tab-at}
-use Rattle.lists.proofs.Fronts.{over-start, over-set, over-next, over-tab-whole}
+use Rattle.lists.proofs.Fronts.{over-start, over-set, over-past, over-tab-whole}
 use Rattle.chain.specs.Chain.{bit, keyBit, valueAt}
 use Rattle.chain.specs.Tables.{keysAt, placeValue}
 use Rattle.chain.proofs.Keys.{keys-bit}
@@ -64,7 +64,7 @@ sum-known c =
     let a = c .before .before .before .before .before .args in
     let here : l .t < 64 = c .loop-test .taken in
     ap (λ (x : List ℕ). num x (l .t)) (l .inv .2)
-    ∙ over-next _ 0 (l .t) _ (rw (part-length (a .codes .now) (a .q)) here)
+    ∙ over-past _ 0 (l .t) _ (l .t) (omega arith)
     ∙ part-at (a .codes .now) (a .q) (l .t) here
 
 value-known : (c : tie.In-loop Inv-loop μ-loop) →

@@ -1,41 +1,39 @@
-use mathlib.Core.Path.{_≡_, _∙_, ap}
-use mathlib.Core.List.{List}
-use mathlib.Core.Logic.{⊎-elim}
-use Prim.Native.Nat.{ℕ, _+_, _-_, _≤_}
+use mathlib.Core.Path.{_≡_, refl, _∙_}
+use Prim.Native.Nat.{_-_, _≤_}
 use native.Mathlib.Omega.{arith}
 use lib.Dec.{lit≤}
-use lib.ListN.{set, replicate}
+use lib.ListN.{replicate}
 use borrow.Author.Needs.{needs}
-use Rattle.lists.specs.Lists.{tab, num, over}
-use Rattle.lists.proofs.Fronts.{over-start, over-set, over-tab-at, over-tab-whole}
+use Rattle.lists.specs.Lists.{tab, over}
+use Rattle.lists.proofs.Fronts.{over-start, over-set, over-tab-whole}
 use Rattle.chain.specs.Tables.{placeValue}
-use Rattle.chain.proofs.Values.{first-value, value-round}
+use Rattle.chain.proofs.Values.{rowValue, row-value}
 use Rattle.chain.proofs.interleaver.row.Statement.{statement}
 use Rattle.chain.proofs.interleaver.row.Tie as tie
 
 abbrev Inv-loop : tie.InvT-loop
-Inv-loop b row₀ i₀ row i = (i ≤ 8) × (row ≡ over (tab (placeValue b) i) (replicate 8 0))
+Inv-loop b rows from row₀ i₀ row i = (i ≤ 8) × (row ≡ over (tab (placeValue b) i) (replicate 8 0))
 
 abbrev μ-loop : tie.MeasureT-loop
-μ-loop b row₀ i₀ row i = 8 - i
+μ-loop b rows from row₀ i₀ row i = 8 - i
+
+sub-from : tie.Need-sub-from Inv-loop μ-loop
+sub-from c = search needs
+
+mul-from : tie.Need-mul-from Inv-loop μ-loop
+mul-from c = search needs
 
 loop-holds : tie.Need-loop-holds Inv-loop μ-loop
 loop-holds c = (search needs, over-start _ _)
 
-cast-row : tie.Need-cast-row Inv-loop μ-loop
-cast-row c = search needs
-
-shl-row : tie.Need-shl-row Inv-loop μ-loop
-shl-row c = search needs
-
-array-write-row : tie.Need-array-write-row Inv-loop μ-loop
-array-write-row c = search needs
+add-row : tie.Need-add-row Inv-loop μ-loop
+add-row c = search needs
 
 array-read-row : tie.Need-array-read-row Inv-loop μ-loop
 array-read-row c = search needs
 
-array-write-row-2 : tie.Need-array-write-row-2 Inv-loop μ-loop
-array-write-row-2 c = search needs
+array-write-row : tie.Need-array-write-row Inv-loop μ-loop
+array-write-row c = search needs
 
 add-i : tie.Need-add-i Inv-loop μ-loop
 add-i c = search needs
@@ -44,21 +42,11 @@ loop-less : tie.Need-loop-less Inv-loop μ-loop
 loop-less c = search needs
 
 loop-again : tie.Need-loop-again Inv-loop μ-loop
+unfolding rowValue placeValue tab
 loop-again c =
-    let l = c .before .before .loop in
-    let b = c .before .before .before .args .b in
-    let written : (v : ℕ) → v ≡ placeValue b (l .i) → set (l .row) (l .i) v ≡ over (tab (placeValue b) (l .i + 1)) (replicate 8 0) =
-    λ v e. over-set 0 (placeValue b) (l .i) (replicate 8 0) (l .row) v (omega arith) (l .inv .1) e in (
-      search needs,
-      ⊎-elim
-          (λ w. w .1 ∙ written _ (first-value b (l .i) (c .before .before .before .pre .1) (w .0 .taken)))
-          (λ w.
-          w .1
-          ∙ written _ (ap (λ (x : List ℕ). num x (l .i - b)) (l .inv .1)
-          ∙ over-tab-at (placeValue b) 0 (l .i) (replicate 8 0) (l .i - b) (omega arith)
-          ∙ value-round b (l .i) (w .0 .left)))
-          (c .if1 .came),
-    )
+    let l = c .before .loop in
+    let s = c .before .before in
+    (search needs, over-set 0 (placeValue (s .args .b)) (l .i) (replicate 8 0) (l .row) _ (omega arith) (l .inv .1) (row-value (s .args .b) (l .i) _ refl (s .pre .0) (s .pre .1) (omega arith)))
 
 returns : tie.Need-returns Inv-loop μ-loop
 returns c =
@@ -72,12 +60,12 @@ row-spec =
     (tie.spec
     Inv-loop
     μ-loop
+    sub-from
+    mul-from
     loop-holds
-    cast-row
-    shl-row
-    array-write-row
+    add-row
     array-read-row
-    array-write-row-2
+    array-write-row
     add-i
     loop-less
     loop-again

@@ -1,6 +1,6 @@
 use Rattle.finder_laws.proofs.FirstBlocks.{first-block}
-use Rattle.finder_laws.proofs.first_block.Statement.{statement}
-use Rattle.finder_laws.proofs.first_block.Tie as tie
+use Rattle.finder_laws.proofs.laws.first_block.Statement.{statement}
+use Rattle.finder_laws.proofs.laws.first_block.Tie as tie
 
 returns : tie.Need-returns
 returns c = first-block

@@ -1,5 +1,5 @@
 use mathlib.Core.Path.{_≡_, _∙_}
-use Prim.Native.Nat.{_-_, _≤_, _%_}
+use Prim.Native.Nat.{_-_, _≤_}
 use native.Mathlib.Omega.{arith}
 use lib.Dec.{lit≤}
 use mathlib.Core.Bool.{false}
@@ -7,16 +7,16 @@ use lib.ListN.{replicate}
 use borrow.Author.Needs.{needs}
 use Rattle.lists.specs.Lists.{tab, over}
 use Rattle.lists.proofs.Fronts.{over-start, over-set, over-tab-whole}
-use Rattle.signs.specs.Signs.{tableSign}
-use Rattle.signs.proofs.of_character.Statement.{statement}
-use Rattle.signs.proofs.of_character.Tie as tie
+use Rattle.characters.specs.Internal.{tableSign}
+use Rattle.characters.proofs.signs.Statement.{statement}
+use Rattle.characters.proofs.signs.Tie as tie
 
 abbrev Inv-loop : tie.InvT-loop
-Inv-loop q keys values symbols character signs₀ t₀ signs t =
-    (t ≤ 64) × (signs ≡ over (tab (tableSign keys values symbols character) t) (replicate 64 false))
+Inv-loop q keys values symbols signs₀ t₀ signs t =
+    (t ≤ 64) × (signs ≡ over (tab (tableSign keys values symbols q) t) (replicate 64 false))
 
 abbrev μ-loop : tie.MeasureT-loop
-μ-loop q keys values symbols character signs₀ t₀ signs t = 64 - t
+μ-loop q keys values symbols signs₀ t₀ signs t = 64 - t
 
 loop-holds : tie.Need-loop-holds Inv-loop μ-loop
 loop-holds c = (search needs, over-start _ _)
@@ -57,7 +57,7 @@ loop-again c =
     let l = c .before .before .before .before .before .loop in
     let a = c .before .before .before .before .before .before .args in (
       search needs,
-      over-set false (tableSign (a .keys .now) (a .values .now) (a .symbols .now) (a .q % 8)) (l .t) (replicate 64 false) (l .signs) _ (omega arith) (l .inv .1)
+      over-set false (tableSign (a .keys .now) (a .values .now) (a .symbols .now) (a .q)) (l .t) (replicate 64 false) (l .signs) _ (omega arith) (l .inv .1)
           (c .sign .ensures),
     )
 
@@ -67,8 +67,8 @@ returns c =
     let done : l .t ≡ 64 = omega arith in
     rw done at (l .inv .1) ∙ over-tab-whole _ 64 _ (lit≤ tt)
 
-pub of-character-spec : {M : Type 1} → statement M
-of-character-spec =
+pub signs-spec : {M : Type 1} → statement M
+signs-spec =
     tie.close
     (tie.spec
     Inv-loop

@@ -1,6 +1,6 @@
 use Rattle.finder_laws.proofs.SentBlocks.{sent-block}
-use Rattle.finder_laws.proofs.sent_block.Statement.{statement}
-use Rattle.finder_laws.proofs.sent_block.Tie as tie
+use Rattle.finder_laws.proofs.laws.sent_block.Statement.{statement}
+use Rattle.finder_laws.proofs.laws.sent_block.Tie as tie
 
 returns : tie.Need-returns
 returns c = sent-block

@@ -1,1 +1,2 @@
 pub mod TableSigns
+pub mod Reached
