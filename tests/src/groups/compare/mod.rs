@@ -2,6 +2,7 @@
 
 pub mod block;
 pub mod draw;
+mod find;
 mod frequency;
 mod message;
 pub mod range;
@@ -75,6 +76,7 @@ pub fn run() -> Report {
     many::<weighted::Decode>(&mut random, &mut tally, 80_000)?;
     many::<weighted_trial::Trial>(&mut random, &mut tally, 40_000)?;
     many::<range::Check>(&mut random, &mut tally, 120_000)?;
+    many::<find::Find>(&mut random, &mut tally, 20_000)?;
     tally.expect_every_refusal()?;
     tally.expect_every_kind()?;
     Ok(tally.lines())
