@@ -21,6 +21,7 @@ stretchAt run start = take 64 (drop start run)
 abbrev pub starts : List ℕ → ℕ
 starts run = length run - 63
 
+-- whether an answer is a text
 abbrev pub isText : Decoded → Bool
 isText (Text n) = true
 isText (Refused r) = false

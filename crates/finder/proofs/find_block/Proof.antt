@@ -65,19 +65,7 @@ use Rattle.finder.proofs.find_block.Code as code
 
 -- how each parameter leaves: the run stays as it is, and the output was given to `find`
 abbrev stayed : Stays (find-block.ended .signature .params) (find-block.ended .kept)
-stayed = (
-  stay-none (λ _. u32) yes,
-  (
-    stay-none (λ _. u32) yes,
-    (
-      stay-none-slice (0 ∷ []) tt (plain (λ _. u16)) yes,
-      (
-        gave-slice (1 ∷ []) tt (plain (λ _. u8)),
-        tt,
-      ),
-    ),
-  ),
-)
+stayed = (stay-none (λ _. u32) yes, (stay-none (λ _. u32) yes, (stay-none-slice (0 ∷ []) tt (plain (λ _. u16)) yes, (gave-slice (1 ∷ []) tt (plain (λ _. u8)), tt))))
 
 -- ---- the struct's machine value has its type, if its fields have theirs
 
@@ -328,19 +316,9 @@ meets : {M : Type 1} (𝓤 : URA M) (H : Heap 𝓤) (A : Atoms 𝓤) → Given �
     → Triple 𝓤 (𝓣 .C #finder·find) (Find 𝓤 H A mem does) → Triple 𝓤 (𝓣 .C #finder·part-found) (PartFound 𝓤 H A mem does)
     → Meets 𝓤 H A find-block.signature (WpFn 𝓤 H (𝓣 .C) (𝓣 .Λ) code.function) (find-block.spec 𝓤 H A mem does)
 meets 𝓤 H A W mem does 𝓣 known-find known-part =
-    walk-meets 𝓤 H A find-block.ended stayed W (
-      goes-none 𝓤 H A W 2 (λ _. u32) yes (λ κs x f. refl),
-      (
-        goes-none 𝓤 H A W 2 (λ _. u32) yes (λ κs x f. refl),
-        (
-          goes-none-slice 𝓤 H A W 2 (0 ∷ []) tt (plain (λ _. u16)) yes,
-          (
-            goes-gave-slice 𝓤 H A W 2 1 tt (plain (λ _. u8)),
-            tt,
-          ),
-        ),
-      ),
-    )
+    let goes-number = goes-none 𝓤 H A W 2 (λ _. u32) yes (λ κs x f. refl) in
+    walk-meets 𝓤 H A find-block.ended stayed W
+    (goes-number, (goes-number, (goes-none-slice 𝓤 H A W 2 (0 ∷ []) tt (plain (λ _. u16)) yes, (goes-gave-slice 𝓤 H A W 2 1 tt (plain (λ _. u8)), tt))))
     (find-block.clauses 𝓤 H A mem does) (WpFn 𝓤 H (𝓣 .C) (𝓣 .Λ) code.function) (WpFn-mono 𝓤 H (W .laws) 𝓣 code.function)
     (walks 𝓤 H A W mem does (𝓣 .C) (𝓣 .Λ) (fmOf 𝓤 H (W .laws) 𝓣) known-find known-part)
 
