@@ -85,12 +85,7 @@ pub fn found(mode: u32, found: BlockFound) -> FoundAnswer
     let told = characters(decided);
     match answer {
         Finding::Start(start) => FoundAnswer {
-            answer: Answer {
-                number: 0,
-                place: 0,
-                lead: 0,
-                count: mode,
-            },
+            answer: accepted(mode as usize),
             start: capped(start),
             characters: told,
         },

@@ -1,6 +1,8 @@
-use mathlib.Core.Path.{refl}
+use mathlib.Core.Path.{_≡_, refl}
 use borrow.Author.Needs.{needs}
+use Rattle.lists.specs.Caps.{capped}
 use Rattle.told.specs.Told.{foundTold}
+use Rattle.told.proofs.Kept.{small-kept}
 use Rattle.told.proofs.found.Statement.{statement}
 use Rattle.told.proofs.found.Tie as tie
 
@@ -9,6 +11,9 @@ characters-requires c κs = search needs
 
 enum-known-answer : tie.Need-enum-known-answer
 enum-known-answer c = search needs
+
+accepted-requires : tie.Need-accepted-requires
+accepted-requires c κs = search needs
 
 capped-requires : tie.Need-capped-requires
 capped-requires c κs = search needs
@@ -21,7 +26,11 @@ refused-requires c κs = search needs
 
 returns : tie.Need-returns
 unfolding foundTold
-returns c = rw (c .before .before .answer .given .1, c .capped .ensures, c .before .before .before .before .characters .ensures) refl
+returns c =
+    let a = c .before .before .before in
+    let s = a .before .before .before .before in
+    let mode : capped (s .args .mode) ≡ s .args .mode = small-kept (s .args .mode) (s .good .0 .1) in
+    rw (a .answer .given .1, c .capped .ensures, a .before .before .characters .ensures, c .before .accepted .ensures, mode) refl
 
 returns-2 : tie.Need-returns-2
 unfolding foundTold
@@ -33,6 +42,7 @@ found-spec =
     (tie.spec
     characters-requires
     enum-known-answer
+    accepted-requires
     capped-requires
     enum-known-answer-2
     refused-requires
