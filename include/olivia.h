@@ -112,12 +112,21 @@ typedef struct {
     uint32_t damage;
 } olivia_weighted_trial;
 
+/* The energy of each character of a block. number 0: no check failed, place is 0, sums has for each of the b
+ * characters the sum of its 64 squared correlations, and total is what each of these equals; past them sums is 0.
+ * Else the refusal's number and its place, and total and sums are 0. */
+typedef struct {
+    uint32_t number, place, total;
+    uint32_t sums[8];
+} olivia_energies;
+
 /* Encodes the n codes of a block. Checks 1, 5, 9, 6. Accepted: count is 64, and the first 64 elements of tones
  * are the block's tones. */
 olivia_answer olivia_encode_block(uint32_t mode, const uint8_t *codes, size_t n, uint16_t *tones, size_t room);
 
 /* Decodes the n tones of a block. Checks 1, 2, 7, 9, 8, 10. Accepted, if every character's lead is at least the
- * set lead: count is b, and the first b elements of codes are the block's codes. */
+ * set lead: count is b, and the first b elements of codes are the block's codes. With a greater set lead, up to 64,
+ * the same block has the same answer, records and codes, or it has refusal 10 and the same records. */
 olivia_block olivia_decode_block(uint32_t mode, uint32_t least_lead, const uint16_t *tones, size_t n,
                                  uint8_t *codes, size_t room);
 
@@ -141,6 +150,18 @@ olivia_block olivia_decode_weighted(uint32_t mode, uint32_t least_lead, const ui
  * accepted by chance, with a text that nobody sent; how often, by mode and set lead, is in docs/SEARCH.md. */
 olivia_found olivia_find_block(uint32_t mode, uint32_t least_lead, const uint16_t *run, size_t n,
                                uint8_t *codes, size_t room);
+
+/* Checks the n tones of a block without knowing its text: adds up, for each character, the squares of the 64
+ * correlations that olivia_decode_block decides it by. Checks 1, 7, 8. total is 64 times the number of tones that
+ * are not missing, and every sum equals it, whatever was sent and whatever noise did to the tones. If twice the
+ * square of one correlation is above total, its word is the only one of greatest magnitude: the character is
+ * decided for it, with a lead of at least 2. */
+olivia_energies olivia_energy(uint32_t mode, const uint16_t *tones, size_t n);
+
+/* The same by the correlations of olivia_decode_weighted. Checks 1, 7, 8, 14. total is 64 times the sum of the
+ * squared weights of the tones that are not missing. */
+olivia_energies olivia_weighted_energy(uint32_t mode, const uint16_t *tones, size_t n,
+                                       const uint8_t *weights, size_t weights_n);
 
 /* Encodes a text of n codes; code 0 fills the last block. Checks 1, 5, 9, 6. Accepted: count is
  * 64 * ceil(n / b), and so many elements at the front of tones are the message's tones. */

@@ -26,8 +26,8 @@ use Rattle.characters.specs.Symbols.{symbolCount, symbolCharacter, symbolCharac
 use Rattle.characters.proofs.Reached.{all-decided}
 use Rattle.characters.proofs.TableSigns.{place-count}
 use Rattle.weight_range.specs.Range.{HasWeights}
-use Rattle.block_decoder.specs.Decoding.{heardSymbol, symbolsOf, countOf, countIn, weightedAt, weightedOf, padded}
-use Rattle.block_decoder.specs.Internal.{seenSymbol, seenTo, heardWeight, heardWeights}
+use Rattle.block_decoder.specs.Decoding.{heardWeight, heardSymbol, symbolsOf, countOf, countIn, weightedAt, weightedOf, padded}
+use Rattle.block_decoder.specs.Internal.{seenSymbol, seenTo, heardWeights}
 use Rattle.block_decoder.proofs.Counts.{symbol-heard, count-missing, count-present}
 
 zeros : length {A = ℕ} (replicate 64 0) ≡ 64
@@ -93,7 +93,7 @@ module _ (tones weights : List ℕ) where
             rw few (sym (count-present k place weight (symbolOf tone) (symbol-marked tone)))
 
     module _ (b : ℕ) (e : isMode b ≡ true) (values : List ℕ) (v : values ≡ tab (placeValue b) 72) where
-      seen-count : (q t : ℕ) → q < b → t < 64 → symbolCount values (seenTo tones 64) (heardWeights tones weights) q t ≡ countIn b (symbolsOf tones) weights q t
+      pub seen-count : (q t : ℕ) → q < b → t < 64 → symbolCount values (seenTo tones 64) (heardWeights tones weights) q t ≡ countIn b (symbolsOf tones) weights q t
       unfolding countIn
       seen-count q t h l =
           place-count b values (seenTo tones 64) (heardWeights tones weights) q t v (omega (arith, mode-range b e)) l

@@ -27,6 +27,10 @@ use Rattle.block_decoder.specs.declared.BlockDecoded.{BlockDecoded}
 abbrev pub plain : List ℕ
 plain = throughout 1
 
+-- the weight that a tone counts with; a missing one has none
+unfoldable pub heardWeight : ℕ → ℕ → ℕ
+heardWeight tone weight = cond (eqb tone missingMark) 0 weight
+
 -- the symbol of a tone; a missing tone's is missing too
 unfoldable pub heardSymbol : ℕ → ℕ
 heardSymbol tone = cond (eqb tone missingMark) missingMark (symbolOf tone)

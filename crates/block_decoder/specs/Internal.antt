@@ -12,7 +12,7 @@ use Rattle.decision.specs.Decision.{none}
 use Rattle.decision.specs.declared.Character.{Character}
 use Rattle.chain.specs.Chain.{missingMark}
 use Rattle.chain.specs.Tables.{symbolOf}
-use Rattle.block_decoder.specs.Decoding.{leadIn}
+use Rattle.block_decoder.specs.Decoding.{heardWeight, leadIn}
 use Rattle.block_decoder.specs.declared.Decoded.{Decoded}
 use Rattle.block_decoder.specs.declared.Decoded.the-variants.{Text, Refused}
 
@@ -25,10 +25,6 @@ seenSymbol tone = cond (eqb tone missingMark) 0 (symbolOf tone)
 -- 64 symbols: those of the first n tones, and 0 after them
 unfoldable pub seenTo : List ℕ → ℕ → List ℕ
 seenTo tones n = over (tab (λ t. seenSymbol (num tones t)) n) (replicate 64 0)
-
--- a missing tone has weight 0
-unfoldable pub heardWeight : ℕ → ℕ → ℕ
-heardWeight tone weight = cond (eqb tone missingMark) 0 weight
 
 unfoldable pub heardWeights : List ℕ → List ℕ → List ℕ
 heardWeights tones weights = tab (λ t. heardWeight (num tones t) (num weights t)) 64

@@ -9,7 +9,7 @@ ghost use Rattle.lists.specs.Lists.{tab, over};
 ghost use Rattle.lists.specs.Places.{scan};
 ghost use Rattle.chain.specs.Tables.{symbolOf};
 ghost use Rattle.tone_range.specs.Range.{badTone, firstBadTone};
-ghost use Rattle.block_decoder.specs.Internal.{seenTo, heardWeight, heardWeights, codeIn, firstUnclearIn};
+ghost use Rattle.block_decoder.specs.Internal.{seenTo, heardWeights, codeIn, firstUnclearIn};
 
 // Looks at 16 tones, one after the other, up to the first bad one, and puts down the symbol of each, 0 for a missing one. The place of the bad
 // tone, else that after the row. Both arms write, and the mark is looked for in the rare one alone: that takes the fewest instructions.
@@ -53,12 +53,6 @@ pub fn look(limit: u16, tones: &[u16], symbols: &mut [u8]) -> usize
     t
 }
 
-fn heard_weight(tone: u16, weight: u8) -> u8
-    ensures { λ r. ⌜ r ≡ heardWeight tone weight ⌝ }
-{
-    if tone == MISSING { 0 } else { weight }
-}
-
 // The weights that count: a missing tone has none, whatever was sent.
 pub fn heard_weights(tones: &[u16], weights: &[u8]) -> [u8; 64]
     requires { ⌜ (length (now tones) ≡ 64) × (length (now weights) ≡ 64) ⌝ }
@@ -67,7 +61,7 @@ pub fn heard_weights(tones: &[u16], weights: &[u8]) -> [u8; 64]
     let mut heard = [0u8; 64];
     let mut t: usize = 0;
     while t < 64 {
-        heard[t] = heard_weight(tones[t], weights[t]);
+        heard[t] = super::heard_weight(tones[t], weights[t]);
         t += 1;
     }
     heard

@@ -1,4 +1,5 @@
 // One block of the published chain, decoded: document 01, "Hearing a block", and document 02, order 3.
+use chain::MISSING;
 use chain::interleaver;
 use decision::Character;
 use decision::NONE;
@@ -7,7 +8,7 @@ use refusal::checks;
 ghost use mathlib.Core.Path.{_≡_};
 ghost use Prim.Native.Nat.{ℕ, _≤_};
 ghost use lib.ListN.{length};
-ghost use Rattle.block_decoder.specs.Decoding.{weightedOf, codesOf, refused, heardBlock, decodeBlock, decodeWeighted, heardInto, decodedInto, weightedInto};
+ghost use Rattle.block_decoder.specs.Decoding.{heardWeight, weightedOf, codesOf, refused, heardBlock, decodeBlock, decodeWeighted, heardInto, decodedInto, weightedInto};
 ghost use Rattle.block_decoder.specs.Internal.{judgementIn};
 
 mod decode;
@@ -16,7 +17,7 @@ mod decode;
 pub const GREATEST_WEIGHT: u8 = 15;
 
 // The weight of every symbol in plain hearing.
-const PLAIN_WEIGHT: u8 = 1;
+pub const PLAIN_WEIGHT: u8 = 1;
 
 // The count of codes written, or the refusal.
 pub enum Decoded {
@@ -128,6 +129,13 @@ fn hear(
         Decoded::Refused(_) => {}
     }
     BlockDecoded { answer, characters }
+}
+
+// The weight that a tone counts with: a missing one has none, whatever was sent.
+pub fn heard_weight(tone: u16, weight: u8) -> u8
+    ensures { λ r. ⌜ r ≡ heardWeight tone weight ⌝ }
+{
+    if tone == MISSING { 0 } else { weight }
 }
 
 fn refused(number: u8, place: usize) -> BlockDecoded

@@ -1,4 +1,4 @@
--- The decisions on a block's characters by its symbols, none of which is missing, a weight for each, and the values of the places in a symbol.
+-- The decisions on a block's characters, and their energies, by its symbols, none of which is missing, a weight for each, and the values of the places in a symbol.
 use mathlib.Core.Bool.{Bool, cond, not}
 use mathlib.Core.List.{List, []}
 use Prim.Native.Nat.{ℕ, _+_, _%_, min}
@@ -9,6 +9,7 @@ use Rattle.lists.specs.Lists.{tab, num}
 use Rattle.lists.specs.Places.{first}
 use Rattle.refusal.specs.Checks.{isMode}
 use Rattle.walsh.specs.Words.{signed, corr, turned}
+use Rattle.walsh.specs.Energy.{energy}
 use Rattle.decision.specs.Decision.{decision}
 use Rattle.decision.specs.declared.Character.{Character}
 use Rattle.chain.specs.Chain.{keyBit}
@@ -32,3 +33,10 @@ reached b m f = min b (first (λ q. ltb (f q .lead) m) b + 1)
 unfoldable pub symbolCharacters : ℕ → ℕ → List ℕ → List ℕ → List ℕ → List Character
 symbolCharacters b m values symbols weights =
     cond (isMode b) (tab (symbolCharacter values symbols weights) (reached b m (symbolCharacter values symbols weights))) []
+
+-- the sum of the squares of the correlations that the decision on character q is by
+unfoldable pub symbolEnergy : List ℕ → List ℕ → List ℕ → ℕ → ℕ
+symbolEnergy values symbols weights q = energy (corr (symbolCount values symbols weights q))
+
+unfoldable pub symbolEnergies : ℕ → List ℕ → List ℕ → List ℕ → List ℕ
+symbolEnergies b values symbols weights = cond (isMode b) (tab (symbolEnergy values symbols weights) b) []

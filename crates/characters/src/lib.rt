@@ -1,4 +1,5 @@
-// The decisions on a block's characters, by its symbols, none of which is missing, and a weight for each: interleaver and key undone.
+// The decisions on a block's characters, and their energies, by its symbols, none of which is missing, and a weight for each: interleaver and key
+// undone.
 use chain::scrambler;
 use decision::Character;
 use decision::NONE;
@@ -8,7 +9,7 @@ ghost use Prim.Native.Nat.{_<_};
 ghost use lib.ListN.{replicate};
 ghost use Rattle.lists.specs.Lists.{tab, over};
 ghost use Rattle.decision.specs.Decision.{none};
-ghost use Rattle.characters.specs.Symbols.{symbolCharacters};
+ghost use Rattle.characters.specs.Symbols.{symbolCharacters, symbolEnergies};
 ghost use Rattle.characters.specs.Internal.{signBy, tableSign};
 
 // Decides the mode's characters, one after the other, up to the first whose lead is under least_lead, and that one too. The values are those of
@@ -39,6 +40,26 @@ pub fn decide(
         q += 1;
     }
     characters
+}
+
+// The sums of the squares of the mode's characters' correlations, those by which `decide` decides. The rest of the eight are 0, and all of them if
+// there is no such mode.
+pub fn energies(mode: u32, values: &[u8; 72], symbols: &[u8; 64], weights: &[u8; 64]) -> [u32; 8]
+    ensures { λ r. ⌜ r ≡ over (symbolEnergies mode (now (values .entry)) (now (symbols .entry)) (now (weights .entry))) (replicate 8 0) ⌝ }
+{
+    let mut energies = [0u32; 8];
+    if !checks::is_mode(mode) {
+        return energies;
+    }
+    let keys = scrambler::keys();
+    let b = mode as usize;
+    let mut q: usize = 0;
+    while q < b {
+        let signs = signs(q, &keys, values, symbols);
+        energies[q] = lead_finder::energy(signs, weights);
+        q += 1;
+    }
+    energies
 }
 
 // The signs of the 64 symbols for character q.

@@ -8,8 +8,8 @@ use native.Mathlib.Omega.{arith}
 use lib.Dec.{ltb, ltb→lt, nltb→le}
 use lib.IntN.{ℤ, natAbs}
 use Rattle.lists.proofs.Integers.{cond-cases}
-use Rattle.lists.proofs.Sums.{sum-ext}
-use Rattle.walsh.specs.Words.{minus, signed, corr}
+use Rattle.walsh.specs.Words.{corr}
+use Rattle.walsh.proofs.Signed.{corr-ext}
 use Rattle.decision.specs.Decision.{better, best, other, runnerUp, negative, codeOf, decisionFor, decision}
 use Rattle.decision.specs.Laws.{Foremost, Chosen, Decision}
 use Rattle.decision.specs.declared.Character.{Character}
@@ -192,6 +192,4 @@ decision-ext r s e =
     }
 
 pub counts-decide : (f g : ℕ → ℤ) → ((t : ℕ) → t < 64 → f t ≡ g t) → decision (corr f) ≡ decision (corr g)
-unfolding corr
-counts-decide f g e =
-    decision-ext (corr f) (corr g) (λ c h. sum-ext 64 (λ t. signed (minus c t) (f t)) (λ t. signed (minus c t) (g t)) (λ t l. ap (signed (minus c t)) (e t l)))
+counts-decide f g e = decision-ext (corr f) (corr g) (λ c h. corr-ext f g e c)

@@ -5,6 +5,7 @@ ghost use Prim.Native.Nat.{_%_};
 ghost use lib.IntN.{pos};
 ghost use Rattle.lists.specs.Lists.{tab};
 ghost use Rattle.walsh.specs.Words.{signed, corr};
+ghost use Rattle.walsh.specs.Energy.{energy};
 ghost use Rattle.decision.specs.Decision.{decision};
 ghost use Rattle.lead_finder.specs.Counts.{countAt};
 
@@ -15,6 +16,13 @@ pub fn decide(signs: [bool; 64], weights: &[u8; 64]) -> Character
     ensures { λ r. ⌜ r ≡ decision (corr (countAt signs (now (weights .entry)))) ⌝ }
 {
     keys::find(walsh::correlations(counts(signs, weights)))
+}
+
+// The sum of the squares of the correlations that such a decision is by.
+pub fn energy(signs: [bool; 64], weights: &[u8; 64]) -> u32
+    ensures { λ r. ⌜ r ≡ energy (corr (countAt signs (now (weights .entry)))) ⌝ }
+{
+    walsh::energy(counts(signs, weights))
 }
 
 fn counts(signs: [bool; 64], weights: &[u8; 64]) -> [i8; 64]

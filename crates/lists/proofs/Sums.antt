@@ -3,6 +3,7 @@ use mathlib.Core.Path.{_≡_, refl, sym, _∙_, ap, ap₂}
 use Prim.Native.Nat.{ℕ, zero, suc, _+_, _*_, _<_, _≤_, _^_, _%_}
 use native.Mathlib.Decide.{ℕ-discrete}
 use native.Mathlib.Nat.{pow-suc, suc-mul, add-mod-left, mod-eq-of-lt}
+use native.Mathlib.Numerals.{add-one}
 use native.Mathlib.Omega.{arith}
 use lib.IntN.{ℤ, pos, negℤ, natAbs, _+ℤ_, _-ℤ_, _*ℤ_, negℤ-+ℤ, +ℤ-assoc, zero-*ℤ, sucℤ-*ℤ}
 use Rattle.lists.specs.Sums.{sum, total}
@@ -59,6 +60,11 @@ total-ext zero f g h = refl
 total-ext (suc n) f g h = omega (arith, total-ext n f g (λ t l. h t (omega arith)), h n (omega arith))
 
 -- ---- totals
+
+-- a loop's turn
+pub total-more : (n : ℕ) (f : ℕ → ℕ) → total n f + f n ≡ total (n + 1) f
+unfolding total
+total-more n f = rw add-one
 
 pub total-within : (n b : ℕ) (f : ℕ → ℕ) → ((t : ℕ) → t < n → f t ≤ b) → total n f ≤ n * b
 unfolding total

@@ -35,7 +35,10 @@ use Rattle.band.specs.declared.Tuned.the-variants as tuned
 use Rattle.search.specs.Starts.{longestRun, starts}
 use Rattle.finder.specs.Finding.{firstStart, isRun, foundStart, findBlock}
 use Rattle.finder.specs.declared.Finding.{Finding}
-use Rattle.told.proofs.Kept.{carriedBy, heardCarries, findingCarries}
+use Rattle.energy.specs.Energies.{summed, heardEnergies}
+use Rattle.energy.specs.Energies as energies
+use Rattle.energy.specs.declared.Energies.{Energies}
+use Rattle.told.proofs.Kept.{carriedBy, heardCarries, findingCarries, totalledCarries}
 
 -- what holds of each of two answers holds of the one that a test chooses
 either-way : {A : Type 0} (P : A → Type 0) (t : Bool) (x y : A) → (t ≡ true → P x) → (t ≡ false → P y) → P (cond t x y)
@@ -88,6 +91,24 @@ block-heard-small N b m tones weights room =
     (λ _.
     let high : b ≤ 8 = mode-range b (not-false _ mode) .1 in
     judged-small m (weightedOf b tones weights) (Text b) (omega (arith, characters-length b tones weights)) (omega arith))))))))
+
+-- ---- a block's energies
+
+abbrev SmallSummed : Energies → Type 0
+SmallSummed e = totalledCarries (e .answer) < 2 ^ 32
+
+pub energies-small : (N b : ℕ) (tones weights : List ℕ) → totalledCarries (heardEnergies N b tones weights .answer) < 2 ^ 32
+unfolding heardEnergies energies.refused summed
+energies-small N b tones weights =
+    either-way SmallSummed (not (isMode b)) _ _ (λ _. omega arith) (λ _.
+    either-way SmallSummed (not (eqb (length tones) 64)) _ _ (λ _. omega arith) (λ _.
+    either-way SmallSummed (not (eqb (length weights) 64)) _ _ (λ _. omega arith) (λ _.
+    either-way SmallSummed (ltb (firstBadTone (2 ^ b) tones) 64) _ _
+    (λ bad. omega (arith, ltb-true (firstBadTone (2 ^ b) tones) 64 bad))
+    (λ _.
+    either-way SmallSummed (ltb (firstBadWeight N weights) 64) _ _
+    (λ bad. omega (arith, ltb-true (firstBadWeight N weights) 64 bad))
+    (λ _. omega arith)))))
 
 -- ---- a block in a run
 

@@ -2,6 +2,7 @@
 use refusal::checks;
 use told::Answer;
 use told::BlockAnswer;
+use told::EnergiesAnswer;
 use told::FoundAnswer;
 ghost use mathlib.Core.Path.{_≡_};
 ghost use lib.ListN.{length};
@@ -12,7 +13,8 @@ ghost use Rattle.message_encoder.specs.Encoding.{encodeMessage, messageEncodedI
 ghost use Rattle.message_decoder.specs.Decoding.{decodeMessage, messageDecodedInto};
 ghost use Rattle.band.specs.Frequencies.{frequencyOf};
 ghost use Rattle.finder.specs.Finding.{findBlock, foundInto};
-ghost use Rattle.told.specs.Told.{encodedTold, decodedTold, blockTold, foundTold};
+ghost use Rattle.energy.specs.Energies.{blockEnergies, weightedEnergies};
+ghost use Rattle.told.specs.Told.{encodedTold, decodedTold, blockTold, foundTold, energiesTold};
 ghost use Rattle.olivia.specs.Told.{lookedAnswer, lookedTold, hertzTold};
 ghost use Rattle.olivia.specs.Tried.{TriedForC};
 ghost use Rattle.olivia.specs.WeightedTried.{WeightedTriedForC};
@@ -98,6 +100,20 @@ pub extern "C" fn olivia_find_block(
     ensures output { λ _. ⌜ now (codes .exit) ≡ foundInto mode «least_lead» (now (run .entry)) (now (codes .entry)) ⌝ }
 {
     told::found(mode, finder::find(mode, least_lead, run, codes))
+}
+
+#[no_mangle]
+pub extern "C" fn olivia_energy(mode: u32, tones: &[u16]) -> EnergiesAnswer
+    ensures { λ r. ⌜ r ≡ energiesTold (blockEnergies mode (now (tones .entry))) ⌝ }
+{
+    told::energies(energy::of_block(mode, tones))
+}
+
+#[no_mangle]
+pub extern "C" fn olivia_weighted_energy(mode: u32, tones: &[u16], weights: &[u8]) -> EnergiesAnswer
+    ensures { λ r. ⌜ r ≡ energiesTold (weightedEnergies mode (now (tones .entry)) (now (weights .entry))) ⌝ }
+{
+    told::energies(energy::of_weighted(mode, tones, weights))
 }
 
 #[no_mangle]

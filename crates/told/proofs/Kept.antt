@@ -1,5 +1,5 @@
 -- An answer that carries less than 2^32 is its own capped answer.
-use mathlib.Core.Path.{_≡_, ap}
+use mathlib.Core.Path.{_≡_, refl, ap}
 use Prim.Native.Nat.{ℕ, _<_, _^_}
 use native.Mathlib.Omega.{arith}
 use Rattle.lists.specs.Caps.{capped}
@@ -12,7 +12,10 @@ use Rattle.block_decoder.specs.declared.BlockDecoded.{BlockDecoded}
 use Rattle.finder.specs.declared.Finding.{Finding}
 use Rattle.finder.specs.declared.Finding.the-variants as finding
 use Rattle.finder.specs.declared.BlockFound.{BlockFound}
-use Rattle.told.specs.Capped.{placeCapped, sentCapped, heardCapped, blockCapped, findingCapped, foundCapped}
+use Rattle.energy.specs.declared.Totalled.{Totalled}
+use Rattle.energy.specs.declared.Totalled.the-variants as totalled
+use Rattle.energy.specs.declared.Energies.{Energies}
+use Rattle.told.specs.Capped.{placeCapped, sentCapped, heardCapped, blockCapped, findingCapped, foundCapped, totalledCapped, energiesCapped}
 
 -- the count or the place that an answer carries
 abbrev pub carriedBy : Encoded → ℕ
@@ -26,6 +29,10 @@ heardCarries (decoded.Refused r) = r .place
 abbrev pub findingCarries : Finding → ℕ
 findingCarries (finding.Start start) = start
 findingCarries (finding.Refused r) = r .place
+
+abbrev pub totalledCarries : Totalled → ℕ
+totalledCarries (totalled.Total n) = 0
+totalledCarries (totalled.Refused r) = r .place
 
 pub small-kept : (n : ℕ) → n < 2 ^ 32 → capped n ≡ n
 unfolding capped
@@ -51,3 +58,10 @@ finding-kept (finding.Refused r) h = ap finding.Refused (place-kept r h)
 
 pub found-kept : (d : BlockFound) → findingCarries (d .answer) < 2 ^ 32 → foundCapped d ≡ d
 found-kept d h = let e = finding-kept (d .answer) h in λ i. record { answer = e i; characters = d .characters }
+
+totalled-kept : (a : Totalled) → totalledCarries a < 2 ^ 32 → totalledCapped a ≡ a
+totalled-kept (totalled.Total n) h = refl
+totalled-kept (totalled.Refused r) h = ap totalled.Refused (place-kept r h)
+
+pub energies-kept : (e : Energies) → totalledCarries (e .answer) < 2 ^ 32 → energiesCapped e ≡ e
+energies-kept e h = let a = totalled-kept (e .answer) h in λ i. record { answer = a i; sums = e .sums }

@@ -9,6 +9,9 @@ use Rattle.block_decoder.specs.declared.BlockDecoded.{BlockDecoded}
 use Rattle.finder.specs.declared.Finding.{Finding}
 use Rattle.finder.specs.declared.Finding.the-variants as finding
 use Rattle.finder.specs.declared.BlockFound.{BlockFound}
+use Rattle.energy.specs.declared.Totalled.{Totalled}
+use Rattle.energy.specs.declared.Totalled.the-variants as totalled
+use Rattle.energy.specs.declared.Energies.{Energies}
 
 -- a refusal with its place capped
 abbrev pub placeCapped : Refusal → Refusal
@@ -36,3 +39,12 @@ findingCapped (finding.Refused r) = finding.Refused (placeCapped r)
 -- a block found with its answer capped
 abbrev pub foundCapped : BlockFound → BlockFound
 foundCapped d = record { answer = findingCapped (d .answer); characters = d .characters }
+
+-- what summing answers, with its place capped
+abbrev pub totalledCapped : Totalled → Totalled
+totalledCapped (totalled.Total n) = totalled.Total n
+totalledCapped (totalled.Refused r) = totalled.Refused (placeCapped r)
+
+-- energies with their answer capped
+abbrev pub energiesCapped : Energies → Energies
+energiesCapped e = record { answer = totalledCapped (e .answer); sums = e .sums }

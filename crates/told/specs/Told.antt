@@ -15,10 +15,14 @@ use Rattle.finder.specs.Stretch.{startOf}
 use Rattle.finder.specs.declared.Finding.{Finding}
 use Rattle.finder.specs.declared.Finding.the-variants as finding
 use Rattle.finder.specs.declared.BlockFound.{BlockFound}
+use Rattle.energy.specs.declared.Totalled.{Totalled}
+use Rattle.energy.specs.declared.Totalled.the-variants as totalled
+use Rattle.energy.specs.declared.Energies.{Energies}
 use Rattle.told.specs.declared.Answer.{Answer}
 use Rattle.told.specs.declared.CharacterAnswer.{CharacterAnswer}
 use Rattle.told.specs.declared.BlockAnswer.{BlockAnswer}
 use Rattle.told.specs.declared.FoundAnswer.{FoundAnswer}
+use Rattle.told.specs.declared.EnergiesAnswer.{EnergiesAnswer}
 
 -- number 0: accepted, with the count of tones or codes written
 abbrev pub acceptedTold : ℕ → Answer
@@ -59,3 +63,11 @@ findingTold b (finding.Refused r) = refusalTold r
 
 unfoldable pub foundTold : ℕ → BlockFound → FoundAnswer
 foundTold b d = record { answer = findingTold b (d .answer); start = startOf (d .answer); characters = charactersTold (d .characters) }
+
+-- number 0: the total, beside the sums
+abbrev pub sumsTold : List ℕ → Totalled → EnergiesAnswer
+sumsTold sums (totalled.Total n) = record { number = 0; place = 0; total = n; sums = sums }
+sumsTold sums (totalled.Refused r) = record { number = r .number; place = r .place; total = 0; sums = sums }
+
+abbrev pub energiesTold : Energies → EnergiesAnswer
+energiesTold e = sumsTold (e .sums) (e .answer)

@@ -4,13 +4,15 @@ use block_decoder::Decoded;
 use block_encoder::Encoded;
 use decision::Character;
 use decision::NONE;
+use energy::Energies;
+use energy::Totalled;
 use finder::BlockFound;
 use finder::Finding;
 use refusal::Refusal;
 ghost use mathlib.Core.Path.{_≡_};
 ghost use Rattle.lists.specs.Caps.{capped};
-ghost use Rattle.told.specs.Told.{acceptedTold, refusalTold, encodedTold, decodedTold, characterTold, charactersTold, blockTold, foundTold};
-ghost use Rattle.told.specs.Capped.{placeCapped, sentCapped, heardCapped, blockCapped, foundCapped};
+ghost use Rattle.told.specs.Told.{acceptedTold, refusalTold, encodedTold, decodedTold, characterTold, charactersTold, blockTold, foundTold, energiesTold};
+ghost use Rattle.told.specs.Capped.{placeCapped, sentCapped, heardCapped, blockCapped, foundCapped, energiesCapped};
 
 // number 0: accepted, and count is the tones or codes written. Else the refusal, and count is 0.
 #[repr(C)]
@@ -45,6 +47,15 @@ pub struct FoundAnswer {
     pub answer: Answer,
     pub start: u32,
     pub characters: [CharacterAnswer; 8],
+}
+
+// number 0: the total, and a sum that equals it for each of the mode's characters; 0 past them. Else the refusal, and zeros.
+#[repr(C)]
+pub struct EnergiesAnswer {
+    pub number: u32,
+    pub place: u32,
+    pub total: u32,
+    pub sums: [u32; 8],
 }
 
 pub fn encoded(answer: Encoded) -> Answer
@@ -93,6 +104,27 @@ pub fn found(mode: u32, found: BlockFound) -> FoundAnswer
             answer: refused(refusal),
             start: 0,
             characters: told,
+        },
+    }
+}
+
+pub fn energies(energies: Energies) -> EnergiesAnswer
+    ensures { λ r. ⌜ r ≡ energiesTold (energiesCapped energies) ⌝ }
+{
+    let answer = energies.answer;
+    let sums = energies.sums;
+    match answer {
+        Totalled::Total(total) => EnergiesAnswer {
+            number: 0,
+            place: 0,
+            total,
+            sums,
+        },
+        Totalled::Refused(refusal) => EnergiesAnswer {
+            number: refusal.number as u32,
+            place: capped(refusal.place),
+            total: 0,
+            sums,
         },
     }
 }

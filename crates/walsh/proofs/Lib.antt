@@ -4,3 +4,5 @@ pub mod Butterflies
 pub mod Locals
 pub mod Fours
 pub mod Sizes
+pub mod Squares
+pub mod Energies

@@ -1,12 +1,12 @@
--- Signs put on whole numbers and on sums.
-use mathlib.Core.Path.{_≡_, refl, sym}
+-- Signs put on whole numbers and on sums, and on counts.
+use mathlib.Core.Path.{_≡_, refl, sym, ap}
 use mathlib.Core.Bool.{Bool, true, false}
-use Prim.Native.Nat.{ℕ}
+use Prim.Native.Nat.{ℕ, _<_}
 use lib.IntN.{ℤ, pos, negℤ, natAbs, _-ℤ_, negℤ-negℤ, negℤ-+ℤ}
 use Rattle.lists.specs.Sums.{sum}
 use Rattle.lists.proofs.Integers.{abs-neg}
-use Rattle.lists.proofs.Sums.{sum-neg}
-use Rattle.walsh.specs.Words.{signed, turned}
+use Rattle.lists.proofs.Sums.{sum-ext, sum-neg}
+use Rattle.walsh.specs.Words.{minus, signed, turned, corr}
 
 pub abs-signed : (s : Bool) (x : ℤ) → natAbs (signed s x) ≡ natAbs x
 abs-signed true x = abs-neg x
@@ -37,3 +37,8 @@ signed-swap false b x = refl
 pub sum-signed : (n : ℕ) (s : Bool) (f : ℕ → ℤ) → sum n (λ t. signed s (f t)) ≡ signed s (sum n f)
 sum-signed n true f = sum-neg n f
 sum-signed n false f = refl
+
+-- correlations rest on the 64 counts alone
+pub corr-ext : (f g : ℕ → ℤ) → ((t : ℕ) → t < 64 → f t ≡ g t) → (c : ℕ) → corr f c ≡ corr g c
+unfolding corr
+corr-ext f g e c = sum-ext 64 _ _ (λ t l. ap (signed (minus c t)) (e t l))

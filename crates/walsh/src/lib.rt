@@ -1,7 +1,9 @@
 // Walsh words, and the fast transform that correlates 64 counts with all of them.
 ghost use mathlib.Core.Path.{_≡_};
+ghost use Prim.Native.Nat.{_≤_};
 ghost use Rattle.lists.specs.Lists.{at};
-ghost use Rattle.walsh.specs.Words.{minus, correlationsOf};
+ghost use Rattle.walsh.specs.Words.{minus, corr, correlationsOf};
+ghost use Rattle.walsh.specs.Energy.{energy};
 ghost use Rattle.walsh.specs.Internal.{stepOf, Within};
 
 pub mod laws;
@@ -21,6 +23,32 @@ pub fn correlations(counts: [i8; 64]) -> [i32; 64]
     let x = two_steps(x);
     let x = two_steps(x);
     two_steps(x)
+}
+
+// The sum of the squares of these correlations. The steps stand here once more, since the compiler puts `correlations` into the code that decides
+// characters only as long as nothing else calls it.
+pub fn energy(counts: [i8; 64]) -> u32
+    ensures { λ r. ⌜ r ≡ energy (corr (at counts)) ⌝ }
+{
+    let x = widened(counts);
+    let x = two_steps(x);
+    let x = two_steps(x);
+    sum_of_squares(two_steps(x))
+}
+
+// Counts of at most 128 in magnitude have squares that add up to at most 64 * 128 * 128, and those of the correlations to 64 times that.
+fn sum_of_squares(correlations: [i32; 64]) -> u32
+    requires { ⌜ energy (at correlations) ≤ 67108864 ⌝ }
+    ensures { λ r. ⌜ r ≡ energy (at correlations) ⌝ }
+{
+    let mut sum: u32 = 0;
+    let mut i: usize = 0;
+    while i < 64 {
+        let correlation = correlations[i];
+        sum += (correlation * correlation) as u32;
+        i += 1;
+    }
+    sum
 }
 
 fn wide(count: i8) -> i32

@@ -6,7 +6,8 @@ use lib.ListN.{replicate}
 use borrow.Author.Needs.{needs}
 use Rattle.lists.specs.Lists.{tab, num, over}
 use Rattle.lists.proofs.Fronts.{over-start, over-set, over-tab-whole}
-use Rattle.block_decoder.specs.Internal.{heardWeight, heardWeights}
+use Rattle.block_decoder.specs.Decoding.{heardWeight}
+use Rattle.block_decoder.specs.Internal.{heardWeights}
 use Rattle.block_decoder.proofs.decode.heard_weights.Statement.{statement}
 use Rattle.block_decoder.proofs.decode.heard_weights.Tie as tie
 

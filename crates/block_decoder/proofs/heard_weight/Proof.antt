@@ -1,7 +1,7 @@
 use borrow.Author.Tests.{eq-eqb, ne-eqb}
-use Rattle.block_decoder.specs.Internal.{heardWeight}
-use Rattle.block_decoder.proofs.decode.heard_weight.Statement.{statement}
-use Rattle.block_decoder.proofs.decode.heard_weight.Tie as tie
+use Rattle.block_decoder.specs.Decoding.{heardWeight}
+use Rattle.block_decoder.proofs.heard_weight.Statement.{statement}
+use Rattle.block_decoder.proofs.heard_weight.Tie as tie
 
 returns : tie.Need-returns
 unfolding heardWeight

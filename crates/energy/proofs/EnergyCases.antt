@@ -1,0 +1,59 @@
+-- `heardEnergies`: an equation for each answer, under the checks that lead to it.
+use mathlib.Core.Path.{_≡_}
+use mathlib.Core.Bool.{true, false}
+use mathlib.Core.List.{List}
+use Prim.Native.Nat.{ℕ, _<_, _≤_, _^_}
+use borrow.Author.Tests.{lt-ltb, le-ltb, eq-eqb, ne-eqb}
+use lib.ListN.{length}
+use Rattle.refusal.specs.Checks.{isMode}
+use Rattle.tone_range.specs.Range.{firstBadTone}
+use Rattle.weight_range.specs.Range.{firstBadWeight}
+use Rattle.energy.specs.Energies.{refused, summed, heardEnergies}
+
+-- what the checks before the ranges leave
+pub record Passed (b n w : ℕ) : Type 0 where
+  pub mode : isMode b ≡ true
+  pub count : n ≡ 64
+  pub weighed : w ≡ 64
+
+module _ (N b : ℕ) (tones weights : List ℕ) where
+  pub refuses-mode : isMode b ≡ false → heardEnergies N b tones weights ≡ refused 1 0
+  unfolding heardEnergies
+  refuses-mode e = simp e
+
+  pub refuses-count : isMode b ≡ true → (length tones ≡ 64 → ⊥) → heardEnergies N b tones weights ≡ refused 7 0
+  unfolding heardEnergies
+  refuses-count e h = simp (e, ne-eqb (length tones) 64 h)
+
+  pub refuses-weights : isMode b ≡ true → length tones ≡ 64 → (length weights ≡ 64 → ⊥) → heardEnergies N b tones weights ≡ refused 7 0
+  unfolding heardEnergies
+  refuses-weights e n h = simp (e, eq-eqb (length tones) 64 n, ne-eqb (length weights) 64 h)
+
+  module _ (p : Passed b (length tones) (length weights)) where
+    pub refuses-tone : firstBadTone (2 ^ b) tones < 64 → heardEnergies N b tones weights ≡ refused 8 (firstBadTone (2 ^ b) tones)
+    unfolding heardEnergies
+    refuses-tone h =
+        simp (p .mode, eq-eqb (length tones) 64 (p .count), eq-eqb (length weights) 64 (p .weighed), lt-ltb (firstBadTone (2 ^ b) tones) 64 h)
+
+    module _ (r : 64 ≤ firstBadTone (2 ^ b) tones) where
+      pub refuses-weight : firstBadWeight N weights < 64 → heardEnergies N b tones weights ≡ refused 14 (firstBadWeight N weights)
+      unfolding heardEnergies
+      refuses-weight h =
+          simp (
+            p .mode,
+            eq-eqb (length tones) 64 (p .count),
+            eq-eqb (length weights) 64 (p .weighed),
+            le-ltb (firstBadTone (2 ^ b) tones) 64 r,
+            lt-ltb (firstBadWeight N weights) 64 h,
+          )
+
+      pub sums-up : 64 ≤ firstBadWeight N weights → heardEnergies N b tones weights ≡ summed b tones weights
+      unfolding heardEnergies
+      sums-up h =
+          simp (
+            p .mode,
+            eq-eqb (length tones) 64 (p .count),
+            eq-eqb (length weights) 64 (p .weighed),
+            le-ltb (firstBadTone (2 ^ b) tones) 64 r,
+            le-ltb (firstBadWeight N weights) 64 h,
+          )

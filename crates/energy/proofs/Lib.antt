@@ -1,0 +1,2 @@
+pub mod EnergyCases
+pub mod Summed
