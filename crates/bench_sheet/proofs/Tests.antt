@@ -2,7 +2,8 @@
 use mathlib.Core.Path.{_≡_, refl, sym, _∙_, ap, ap₂, subst}
 use mathlib.Core.Bool.{Bool, true, false, _&&_}
 use mathlib.Core.List.{List, [], _∷_}
-use Prim.Native.Nat.{ℕ, _+_, _*_}
+use mathlib.Core.Logic.{⊎-elim}
+use Prim.Native.Nat.{ℕ, _+_, _*_, _≤_}
 use native.Mathlib.Omega.{arith}
 use lib.Dec.{T, leb, eqb, leb→le, eqb→eq}
 use lib.ListN.{length, take, replicate}
@@ -25,11 +26,13 @@ use Rattle.block_decoder.specs.declared.Decoded.the-variants as decoded
 use Rattle.block_decoder.proofs.DecodeCases.{judged, judges}
 use Rattle.block_decoder.proofs.Answers.{passed}
 use Rattle.demands.specs.Demand.{replacedIn, missingIn}
+use Rattle.lead_laws.specs.Laws.{BecomesUnclear}
+use Rattle.lead_laws.proofs.Raises.{raised-lead}
 use Rattle.band.specs.Frequencies.{frequencyOf}
 use Rattle.band.specs.declared.Tuned.{Tuned}
 use Rattle.band.specs.declared.Tuned.the-variants as tuned
 use Rattle.bench_sheet.specs.Heard.{case-1, Accepts}
-use Rattle.bench_sheet.specs.Sheet.{Row, b=_codes_first-tones_, tone_is-symbol_, _r=_u=_, _m=_accepts-code_lead_, _m=_refuses-10-place_lead_, _has-lead_, _just-beyond-demand-3-at-m=_, b=_B_centre_tone_at_thousandths, Holds, Each}
+use Rattle.bench_sheet.specs.Sheet.{Row, b=_codes_first-tones_, tone_is-symbol_, _r=_u=_, _m=_accepts-code_lead_, _m=_refuses-10-place_lead_, _at-every-m-refuses-10-place_lead_, _has-lead_, _just-beyond-demand-3-at-m=_, b=_B_centre_tone_at_thousandths, Holds, Each}
 use Rattle.bench_sheet.proofs.Quick.{quickOf, characters-quick}
 
 -- ---- lists of numbers
@@ -131,6 +134,21 @@ decoded-quick m heard t =
     (weights-in-range 1 plain (has-throughout 1 1 (omega arith)))
     ∙ ap (judged 1 m) (characters-quick 1 heard plain)
 
+-- what is refused as unclear at m = 1 is so at every m, with the same lead
+at-every-m : (heard : List ℕ) (q l : ℕ) → q ≡ 0 → decodeBlock 1 1 heard 1 .answer ≡ decoded.Refused (unclearAt q l)
+    → leadIn (decodeBlock 1 1 heard 1 .characters) q ≡ l
+    → (m : ℕ) → 1 ≤ m → m ≤ 64 → decodeBlock 1 m heard 1 .answer ≡ decoded.Refused (unclearAt q l)
+at-every-m heard q l first answer its-lead m low high =
+    ⊎-elim (λ s. ap (λ (d : BlockDecoded). d .answer) (s .answer) ∙ answer) becomes
+    (raised-lead .raised 1 1 1 m heard plain (0 ∷ []) (omega arith) low high .either)
+  where
+    becomes : BecomesUnclear 1 1 1 m heard plain (0 ∷ []) → decodeBlock 1 m heard 1 .answer ≡ decoded.Refused (unclearAt q l)
+    becomes u =
+        let place : u .unclear .place ≡ q = omega (arith, u .unclear .inside) in
+        u .unclear .refused
+        ∙ ap (λ (k : ℕ). decoded.Refused (unclearAt k (leadIn (decodeBlock 1 m heard 1 .characters) k))) place
+        ∙ ap (λ (n : ℕ). decoded.Refused (unclearAt q n)) (ap (λ (x : List Character). leadIn x q) (u .records) ∙ its-lead)
+
 -- ---- rows
 
 abbrev passes : Row → Bool
@@ -139,6 +157,7 @@ passes (tone g is-symbol s) = eqb (symbolOf g) s
 passes (heard r= r u= u) = eqb (replacedIn case-1 heard) r && eqb (missingIn heard) u
 passes (heard m= m accepts-code v lead l) = is-whole m heard && is-accepted (quick m heard) v l
 passes (heard m= m refuses-10-place q lead l) = is-whole m heard && is-unclear (quick m heard .answer) q l
+passes (heard at-every-m-refuses-10-place q lead l) = is-whole 1 heard && (eqb q 0 && (is-unclear (quick 1 heard .answer) q l && eqb (leadIn (quick 1 heard .characters) q) l))
 passes (heard has-lead l) = eqb (leadIn (quickOf 1 heard plain) 0) l
 passes (heard just-beyond-demand-3-at-m= m) = eqb (2 * missingIn heard + 4 * replacedIn case-1 heard) (64 + m)
 passes (b= b B w centre c tone n at k thousandths) = is-hertz (frequencyOf b w c n) k 1000
@@ -158,6 +177,17 @@ holds (heard m= m refuses-10-place q lead l) t =
     let whole = is-whole m heard in
     let its = is-unclear (quick m heard .answer) q l in
     ap (λ (d : BlockDecoded). d .answer) (decoded-quick m heard (and-l whole its t)) ∙ unclear (quick m heard .answer) q l (and-r whole its t)
+holds (heard at-every-m-refuses-10-place q lead l) t =
+    let whole = is-whole 1 heard in
+    let first = eqb q 0 in
+    let second = is-unclear (quick 1 heard .answer) q l in
+    let third = eqb (leadIn (quick 1 heard .characters) q) l in
+    let rest = and-r whole (first && (second && third)) t in
+    let its = and-r first (second && third) rest in
+    let same = decoded-quick 1 heard (and-l whole (first && (second && third)) t) in
+    at-every-m heard q l (eqb→eq q 0 (and-l first (second && third) rest))
+    (ap (λ (d : BlockDecoded). d .answer) same ∙ unclear (quick 1 heard .answer) q l (and-l second third its))
+    (ap (λ (d : BlockDecoded). leadIn (d .characters) q) same ∙ eqb→eq (leadIn (quick 1 heard .characters) q) l (and-r second third its))
 holds (heard has-lead l) t =
     ap (λ (x : List Character). leadIn x 0) (characters-quick 1 heard plain) ∙ eqb→eq (leadIn (quickOf 1 heard plain) 0) l t
 holds (heard just-beyond-demand-3-at-m= m) t = eqb→eq (2 * missingIn heard + 4 * replacedIn case-1 heard) (64 + m) t

@@ -2,7 +2,7 @@
 use mathlib.Core.Path.{_≡_}
 use mathlib.Core.Bool.{false}
 use mathlib.Core.List.{List, [], _∷_}
-use Prim.Native.Nat.{ℕ, _+_, _*_}
+use Prim.Native.Nat.{ℕ, _+_, _*_, _≤_}
 use lib.Ieee.{Float}
 use lib.Ieee.Exact.{HasValue}
 use lib.ListN.{length, take, replicate}
@@ -18,13 +18,14 @@ use Rattle.bench_sheet.specs.Heard.{case-1, turned-to, missing-to, all-m
 
 -- ---- rows
 
-infixr 5 b=_codes_first-tones_ tone_is-symbol_ _r=_u=_ _m=_accepts-code_lead_ _m=_refuses-10-place_lead_ _has-lead_ _just-beyond-demand-3-at-m=_ b=_B_centre_tone_at_thousandths
+infixr 5 b=_codes_first-tones_ tone_is-symbol_ _r=_u=_ _m=_accepts-code_lead_ _m=_refuses-10-place_lead_ _at-every-m-refuses-10-place_lead_ _has-lead_ _just-beyond-demand-3-at-m=_ b=_B_centre_tone_at_thousandths
 pub data Row : Type 0 where
   b=_codes_first-tones_ : ℕ → List ℕ → List ℕ → Row
   tone_is-symbol_ : ℕ → ℕ → Row
   _r=_u=_ : List ℕ → ℕ → ℕ → Row
   _m=_accepts-code_lead_ : List ℕ → ℕ → ℕ → ℕ → Row
   _m=_refuses-10-place_lead_ : List ℕ → ℕ → ℕ → ℕ → Row
+  _at-every-m-refuses-10-place_lead_ : List ℕ → ℕ → ℕ → Row
   _has-lead_ : List ℕ → ℕ → Row
   _just-beyond-demand-3-at-m=_ : List ℕ → ℕ → Row
   b=_B_centre_tone_at_thousandths : ℕ → ℕ → ℕ → ℕ → ℕ → Row
@@ -37,6 +38,7 @@ Holds (tone g is-symbol s) = symbolOf g ≡ s
 Holds (heard r= r u= u) = (replacedIn case-1 heard ≡ r) × (missingIn heard ≡ u)
 Holds (heard m= m accepts-code v lead l) = Accepts (decodeBlock 1 m heard 1) v l
 Holds (heard m= m refuses-10-place q lead l) = decodeBlock 1 m heard 1 .answer ≡ Refused (unclearAt q l)
+Holds (heard at-every-m-refuses-10-place q lead l) = (m : ℕ) → 1 ≤ m → m ≤ 64 → decodeBlock 1 m heard 1 .answer ≡ Refused (unclearAt q l)
 Holds (heard has-lead l) = leadIn (charactersOf 1 heard) 0 ≡ l
 Holds (heard just-beyond-demand-3-at-m= m) = 2 * missingIn heard + 4 * replacedIn case-1 heard ≡ 64 + m
 Holds (b= b B w centre c tone n at k thousandths) = (x : Float) × (frequencyOf b w c n ≡ Hertz x) × HasValue x false k 1000
@@ -45,7 +47,7 @@ abbrev pub Each : List Row → Type 0
 Each [] = Unit {0}
 Each (row ∷ rows) = Holds row × Each rows
 
--- ---- the starred cases, each row with its number; case 11 at the least m
+-- ---- the starred cases, each row with its number
 abbrev pub starred : List Row
 starred =
     (b= 1 codes (0 ∷ []) first-tones (0 ∷ 0 ∷ 1 ∷ 1 ∷ 0 ∷ 1 ∷ 1 ∷ 1 ∷ []))  -- 1
@@ -66,7 +68,7 @@ starred =
     ∷ (turned-to 62 r= 32 u= 0)  -- 10
     ∷ (turned-to 62 m= 64 accepts-code 1 lead 64)  -- 10
     ∷ (turned-to 62 just-beyond-demand-3-at-m= 64)  -- 10
-    ∷ (all-missing m= 1 refuses-10-place 0 lead 0)  -- 11
+    ∷ (all-missing at-every-m-refuses-10-place 0 lead 0)  -- 11
     ∷ (b= 5 B 1000 centre 1500 tone 0 at 1015625 thousandths)  -- 12
     ∷ (b= 5 B 1000 centre 1500 tone 31 at 1984375 thousandths)  -- 12
     ∷ []
