@@ -2,13 +2,15 @@
 use mathlib.Core.Path.{_≡_, refl, sym, _∙_, ap}
 use mathlib.Core.Bool.{Bool, true, false, cond}
 use mathlib.Core.List.{List}
-use Prim.Native.Nat.{ℕ, _+_, _<_, _≤_}
+use Prim.Native.Nat.{ℕ, _+_, _<_, _≤_, _^_}
+use native.Mathlib.Decide.{decLt}
 use native.Mathlib.Omega.{arith}
 use borrow.Author.Tests.{leb-false, ltb-true, ltb-false}
 use lib.Dec.{ltb}
 use lib.ListN.{length}
 use Rattle.lists.proofs.Places.{first-is}
 use Rattle.refusal.specs.Refused.{refusedAt}
+use Rattle.tone_range.specs.Range.{firstBadTone}
 use Rattle.weight_range.proofs.Ranges.{has-throughout}
 use Rattle.block_decoder.specs.Decoding.{plain, charactersOf, decodeBlock}
 use Rattle.block_decoder.specs.declared.Decoded.{Decoded}
@@ -23,9 +25,9 @@ use Rattle.finder.specs.Finding.{decodesAt, firstStart, foundStart, recordsOf, 
 use Rattle.finder.specs.declared.Finding.{Finding}
 use Rattle.finder.specs.declared.Finding.the-variants as finding
 use Rattle.finder.proofs.Starts.{stretch-tones}
-use Rattle.finder.proofs.FindCases.{Searched, start-searched, none-searched}
+use Rattle.finder.proofs.FindCases.{Passed, tells-start, Searched, start-searched, none-searched}
 use Rattle.demands.proofs.Answers.{refuses}
-use Rattle.finder_laws.specs.Laws.{UnclearAt, Earliest, FirstBlock}
+use Rattle.finder_laws.specs.Laws.{UnclearAt, Earliest, FirstBlock, FoundBy}
 
 -- a text is the mode's count of codes
 is-text : (b m : ℕ) (tones : List ℕ) (room : ℕ) → isText (decodeBlock b m tones room .answer) ≡ true → decodeBlock b m tones room .answer ≡ Text b
@@ -80,6 +82,27 @@ module _ (b m : ℕ) (run codes : List ℕ) where
         output = rw e refl;
         earlier = λ k l. unclear-before _ s k (omega (arith, first .0, first .1)) (omega (arith, first .1));
       }
+
+-- a start at which 64 tones are accepted is found, or an earlier one
+module _ (b m : ℕ) (run codes : List ℕ) (p : Passed b m run (length codes)) (good : length run ≤ firstBadTone (2 ^ b) run) where
+  abbrev reached : ℕ
+  reached = firstStart b m run (length codes)
+
+  no-later : (s : ℕ) → decodesAt b m run (length codes) s ≡ true → reached ≤ s
+  unfolding firstStart
+  no-later s e = by (decLt s reached)
+    where
+      by : Dec (s < reached) → reached ≤ s
+      by (yes l) =
+          let z : _≡_ {A = ℕ} 0 1 = let f = first-is (decodesAt b m run (length codes)) (starts run) .lowest s l in cc in
+          absurd (omega arith)
+      by (no g) = omega arith
+
+  pub found-by : (s : ℕ) → s + 64 ≤ length run → decodeBlock b m (stretchAt run s) (length codes) .answer ≡ Text b → FoundBy b m run codes s
+  unfolding findBlock decodesAt
+  found-by s inside e =
+      let early : reached ≤ s = no-later s (ap isText e) in
+      record { start = reached; found = tells-start b m run (length codes) p good (omega arith); by = early }
 
 pub first-block : FirstBlock
 unfolding findBlock

@@ -1,27 +1,22 @@
 -- A block sent within a run is found at its place or before, and at its place with its text.
-use mathlib.Core.Path.{_≡_, sym, _∙_, ap}
-use mathlib.Core.Bool.{true}
+use mathlib.Core.Path.{_≡_, sym, _∙_}
 use mathlib.Core.List.{List}
 use mathlib.Core.Logic.{_⊎_, ⊎-elim}
 use Prim.Native.Nat.{ℕ, _+_, _*_, _<_, _≤_}
-use native.Mathlib.Decide.{decLt}
-use native.Mathlib.Omega.{arith}
 use lib.Dec.{lit≤}
 use lib.ListN.{length, replicate}
 use Rattle.lists.specs.Lists.{over}
-use Rattle.lists.proofs.Places.{first-is}
 use Rattle.chain.specs.Chain.{tonesOf}
 use Rattle.block_decoder.specs.Decoding.{decodeBlock, decodedInto}
 use Rattle.block_decoder.proofs.Clarity.{text-refused}
-use Rattle.search.specs.Starts.{stretchAt, starts, isText}
-use Rattle.finder.specs.Finding.{decodesAt, firstStart, findBlock, foundInto}
+use Rattle.search.specs.Starts.{stretchAt}
+use Rattle.finder.specs.Finding.{findBlock, foundInto}
 use Rattle.finder.specs.declared.Finding.the-variants.{Start}
 use Rattle.finder.proofs.Starts.{stretch-tones}
-use Rattle.finder.proofs.FindCases.{tells-start}
 use Rattle.demands.specs.Demand.{missingIn, replacedIn, Covered, Gives, RefusesAsUnclear}
 use Rattle.demands.proofs.Demands.{demand3}
 use Rattle.finder_laws.specs.Laws.{RunCovered, FoundBy, SentBlock}
-use Rattle.finder_laws.proofs.FirstBlocks.{first-block}
+use Rattle.finder_laws.proofs.FirstBlocks.{found-by, first-block}
 
 module _ (b m : ℕ) (text run codes : List ℕ) (s : ℕ) (c : RunCovered b m text run codes) (inside : s + 64 ≤ length run) where
   abbrev heard : List ℕ
@@ -54,28 +49,8 @@ module _ (b m : ℕ) (text run codes : List ℕ) (s : ℕ) (c : RunCovered b m t
   no-other-text : 2 * u + 4 * r < 64 + m → GivesThere ⊎ RefusesAsUnclear b m (decodeBlock b m heard (length codes)) codes (decodedInto b m heard codes)
   no-other-text h = demand3 .met b m text heard (replicate 64 0) codes codes covered .no-other h
 
-  abbrev reached : ℕ
-  reached = firstStart b m run (length codes)
-
-  no-later : decodesAt b m run (length codes) s ≡ true → reached ≤ s
-  unfolding firstStart
-  no-later e = by (decLt s reached)
-    where
-      by : Dec (s < reached) → reached ≤ s
-      by (yes l) =
-          let z : _≡_ {A = ℕ} 0 1 = let f = first-is (decodesAt b m run (length codes)) (starts run) .lowest s l in cc in
-          absurd (omega arith)
-      by (no g) = omega arith
-
-  found-by : GivesThere → FoundBy b m run codes s
-  unfolding findBlock decodesAt
-  found-by g =
-      let early : reached ≤ s = no-later (ap isText (g .accepted)) in
-      record {
-        start = reached;
-        found = tells-start b m run (length codes) (record { settings = c .settings; count = c .count; fits = c .room }) (c .tones) (omega arith);
-        by = early;
-      }
+  found : GivesThere → FoundBy b m run codes s
+  found g = found-by b m run codes (record { settings = c .settings; count = c .count; fits = c .room }) (c .tones) s inside (g .accepted)
 
   own-text : 2 * u + 4 * r < 64 + m → findBlock b m run (length codes) .answer ≡ Start s → foundInto b m run codes ≡ over text codes
   own-text h e =
@@ -88,7 +63,7 @@ module _ (b m : ℕ) (text run codes : List ℕ) (s : ℕ) (c : RunCovered b m t
 pub sent-block : SentBlock
 sent-block = record {
   finds = λ b m text run codes s c inside. record {
-    found = λ h. found-by b m text run codes s c inside (same-text b m text run codes s c inside h);
+    found = λ h. found b m text run codes s c inside (same-text b m text run codes s c inside h);
     own-text = own-text b m text run codes s c inside;
   };
 }

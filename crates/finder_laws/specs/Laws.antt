@@ -1,4 +1,4 @@
--- The laws of finding a block: document 02, order 1. Each is the promise of the function of the same name in src/laws.rt.
+-- The laws of finding a block: document 02, orders 1 and 13. Each is the promise of the function of the same name in src/laws.rt.
 use mathlib.Core.Bool.{true}
 use mathlib.Core.List.{List}
 use mathlib.Core.Path.{_≡_}
@@ -62,3 +62,12 @@ pub record FindsSent (b m : ℕ) (text run codes : List ℕ) (s u r : ℕ) : Typ
 pub record SentBlock : Type 0 where
   pub finds : (b m : ℕ) (text run codes : List ℕ) (s : ℕ) → RunCovered b m text run codes → s + 64 ≤ length run
       → FindsSent b m text run codes s (missingIn (stretchAt run s)) (replacedIn (tonesOf b text) (stretchAt run s))
+
+-- ---- a raised m
+
+-- With a smaller m the start found is the same or an earlier one; and where none is found, none is with a greater m.
+pub record RaisedLead : Type 0 where
+  pub found : (b m m′ : ℕ) (run codes : List ℕ) (start : ℕ) → 1 ≤ m → m ≤ m′ → m′ ≤ 64
+      → findBlock b m′ run (length codes) .answer ≡ Start start → FoundBy b m run codes start
+  pub none : (b m m′ : ℕ) (run codes : List ℕ) → 1 ≤ m → m ≤ m′ → m′ ≤ 64
+      → findBlock b m run (length codes) .answer ≡ Refused (refusedAt 13 0) → findBlock b m′ run (length codes) .answer ≡ Refused (refusedAt 13 0)
