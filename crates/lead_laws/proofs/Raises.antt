@@ -33,6 +33,9 @@ pub clear-below : (m m′ : ℕ) → m ≤ m′ → (characters : List Character
     → length characters ≤ firstUnclear m characters
 clear-below m m′ h characters clear = all-clear m characters (λ q l. omega (arith, clear-lead m′ characters clear q l))
 
+pub same-number : {number place : ℕ} {r : Refusal} → Refused (refusedAt number place) ≡ Refused r → number ≡ r .number
+same-number e = cc
+
 -- ---- the checks that do not rest on m
 
 module _ (N b : ℕ) (tones weights : List ℕ) (room : ℕ) where
@@ -100,10 +103,7 @@ module _ (N b m m′ : ℕ) (tones weights out : List ℕ) where
     unfolding refused
     raised-unheard r =
         raised-same (r .told m′ f′ ∙ sym (r .told m f))
-        (λ u. r .not-unclear (number (sym (ap (λ (d : BlockDecoded). d .answer) (r .told m f)) ∙ u .refused)))
-      where
-        number : {k place : ℕ} {x : Refusal} → Refused (refusedAt k place) ≡ Refused x → k ≡ x .number
-        number e = cc
+        (λ u. r .not-unclear (same-number (sym (ap (λ (d : BlockDecoded). d .answer) (r .told m f)) ∙ u .refused)))
 
     raised-heard : m ≤ m′ → Heard N b tones weights (length out) → Raised N b m m′ tones weights out
     raised-heard h r = by (decLt (firstUnclear m′ characters) b)

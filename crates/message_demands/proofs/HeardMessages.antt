@@ -47,7 +47,7 @@ module _ (limit b m : ℕ) (tones out own : List ℕ) (ok : BreaksNoLimit limit 
   abbrev AllClear : ℕ → Type 0
   AllClear n = (k : ℕ) → k < n → blockHeard b m tones own k .answer ≡ Text b
 
-  hearable : Hearable limit b m tones (length out)
+  pub hearable : Hearable limit b m tones (length out)
   hearable = record {
     passed = record { mode = ok .settings .mode; lead = ok .settings .lead; whole = ok .whole; fits = ok .room };
     in-range = good-tones (2 ^ b) tones (λ t l. good-tone (2 ^ b) (num tones t) (ok .each t l));
@@ -104,13 +104,13 @@ module _ (limit b m : ℕ) (tones out own : List ℕ) (ok : BreaksNoLimit limit 
 
   -- ---- by the characters' leads
 
-  lead-in : (k q : ℕ) → k < count → q < b → leadHeard b m tones own k q ≡ leadIn characters (k * b + q)
+  pub lead-in : (k q : ℕ) → k < count → q < b → leadHeard b m tones own k q ≡ leadIn characters (k * b + q)
   unfolding messageCharacters
   lead-in k q l g =
       block.lead-decided 1 b m (blockAt tones k) plain own (passed b m (blockAt tones k) (length own) (ok .settings) (in-range k l .count) h) (in-range k l) (has-throughout 1 1 (omega arith)) q g
       ∙ sym (ap (λ (c : Character). c .lead) (heard-at b tones count k q l g))
 
-  refuses : firstUnclear m characters < count * b → RefusesAsUnclear limit b m tones out own
+  pub refuses : firstUnclear m characters < count * b → RefusesAsUnclear limit b m tones out own
   refuses l =
       let p : ℕ = firstUnclear m characters in
       let low : 1 ≤ b = mode-range b (ok .settings .mode) .0 in

@@ -129,3 +129,18 @@ pub record Clear : Type 0 where
 -- Leads are even, so m = 2k - 1 acts as m = 2k.
 pub record OddLeads : Type 0 where
   pub even : (limit b k : ℕ) (tones : List ℕ) (room : ℕ) → decodeMessage limit b (2 * k - 1) tones room ≡ decodeMessage limit b (2 * k) tones room
+
+-- A message heard at m and at a greater m′: answer and output are the same, or the answer is a refusal as unclear. A text at m′ is the text at
+-- m, and what is unclear at m is unclear at m′.
+pub record Stays (limit b m m′ : ℕ) (tones out : List ℕ) : Type 0 where
+  pub answer : decodeMessage limit b m′ tones (length out) ≡ decodeMessage limit b m tones (length out)
+  pub output : messageDecodedInto limit b m′ tones out ≡ messageDecodedInto limit b m tones out
+
+pub record Raised (limit b m m′ : ℕ) (tones out own : List ℕ) : Type 0 where
+  pub either : Stays limit b m m′ tones out ⊎ RefusesAsUnclear limit b m′ tones out own
+  pub same-text : (n : ℕ) → decodeMessage limit b m′ tones (length out) ≡ Text n → Stays limit b m m′ tones out
+  pub still-unclear : RefusesAsUnclear limit b m tones out own → RefusesAsUnclear limit b m′ tones out own
+
+-- Raising m within its range leaves the answer to a message and its output as they are, or turns the answer into a refusal as unclear.
+pub record RaisedLead : Type 0 where
+  pub raised : (limit b m m′ : ℕ) (tones out own : List ℕ) → 1 ≤ m → m ≤ m′ → m′ ≤ 64 → b ≤ length own → Raised limit b m m′ tones out own

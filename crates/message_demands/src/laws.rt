@@ -1,5 +1,5 @@
 // The laws of a message, stated in specs/Laws.antt. A function here does nothing: its promise is the law.
-ghost use Rattle.message_demands.specs.Laws.{BlockTones, NoMark, RoundTrip, Clean, BlocksHeard, Clear, OddLeads};
+ghost use Rattle.message_demands.specs.Laws.{BlockTones, NoMark, RoundTrip, Clean, BlocksHeard, Clear, OddLeads, RaisedLead};
 
 pub fn block_tones()
     ensures { λ _. ⌜ BlockTones ⌝ }
@@ -27,4 +27,8 @@ pub fn clear()
 
 pub fn odd_leads()
     ensures { λ _. ⌜ OddLeads ⌝ }
+{}
+
+pub fn raised_lead()
+    ensures { λ _. ⌜ RaisedLead ⌝ }
 {}
