@@ -23,6 +23,10 @@ static_assert(offsetof(olivia_hertz, hertz) == 8 && sizeof(olivia_hertz) == 16, 
 static_assert(offsetof(olivia_trial, replaced) == 48 && sizeof(olivia_trial) == 56, "three answers and two numbers");
 static_assert(offsetof(olivia_weighted_trial, damage) == 48 && sizeof(olivia_weighted_trial) == 52,
               "three answers and a number");
+static_assert(offsetof(olivia_energies, number) == 0 && offsetof(olivia_energies, place) == 4 &&
+                  offsetof(olivia_energies, total) == 8 && offsetof(olivia_energies, sums) == 12 &&
+                  sizeof(olivia_energies) == 44,
+              "eleven numbers of 32 bits");
 
 static int cases, failures;
 
@@ -261,6 +265,59 @@ static void weighted_trials(void)
     check("its damage", trial.damage == 68);
 }
 
+/* What is told of a block of mode b that is accepted, every character of which has this energy. */
+static int adds_up(olivia_energies given, uint32_t b, uint32_t total)
+{
+    olivia_energies all;
+
+    memset(&all, 0, sizeof all);
+    all.total = total;
+    for (uint32_t q = 0; q < b; q++)
+        all.sums[q] = total;
+    return memcmp(&given, &all, sizeof all) == 0;
+}
+
+static int adds_nothing(olivia_energies given, uint32_t number, uint32_t place)
+{
+    olivia_energies all;
+
+    memset(&all, 0, sizeof all);
+    all.number = number;
+    all.place = place;
+    return memcmp(&given, &all, sizeof all) == 0;
+}
+
+/* A block of mode 3, with two tones replaced and one missing. The squared weights are 225 for 61 tones, 16 and 1. */
+static void energies(void)
+{
+    const uint8_t text[3] = {64, 127, 0};
+    uint16_t tones[TONES];
+    uint8_t weights[TONES];
+
+    olivia_encode_block(3, text, 3, tones, TONES);
+    memset(weights, 15, sizeof weights);
+    check("the energy of a clean block", adds_up(olivia_energy(3, tones, TONES), 3, 4096));
+    tones[3] = MISSING;
+    tones[5] ^= 1;
+    tones[63] ^= 6;
+    weights[5] = 4;
+    weights[63] = 1;
+    check("the energy of a damaged block", adds_up(olivia_energy(3, tones, TONES), 3, 64 * 63));
+    check("its energy with weights",
+          adds_up(olivia_weighted_energy(3, tones, TONES, weights, TONES), 3, 64 * (61 * 225 + 16 + 1)));
+    check("the energy of 63 tones", adds_nothing(olivia_energy(3, tones, TONES - 1), 7, 0));
+    check("the energy of no tones", adds_nothing(olivia_energy(3, NULL, 0), 7, 0));
+    check("energy without weights", adds_nothing(olivia_weighted_energy(3, tones, TONES, NULL, 0), 7, 0));
+    check("energy at mode 9", adds_nothing(olivia_energy(9, tones, TONES), 1, 0));
+    check("energy at mode 9 with weights", adds_nothing(olivia_weighted_energy(9, tones, TONES, weights, TONES), 1, 0));
+    weights[3] = 16;
+    check("energy with weight 16 of a missing tone",
+          adds_nothing(olivia_weighted_energy(3, tones, TONES, weights, TONES), 14, 3));
+    tones[40] = 8;
+    check("energy with tone 8 at mode 3", adds_nothing(olivia_energy(3, tones, TONES), 8, 40));
+    check("the same with weights", adds_nothing(olivia_weighted_energy(3, tones, TONES, weights, TONES), 8, 40));
+}
+
 int main(void)
 {
     blocks();
@@ -271,6 +328,7 @@ int main(void)
     trials();
     weights();
     weighted_trials();
+    energies();
     printf("header: %d cases\n", cases);
     return failures != 0;
 }

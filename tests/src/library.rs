@@ -74,8 +74,18 @@ pub struct WeightedTrial {
     pub damage: u32,
 }
 
+/// Number 0: `sums` has the energy of each of the mode's characters, and `total` is what each of these equals.
+#[repr(C)]
+#[derive(Clone, Copy, Debug, Default, PartialEq, Eq)]
+pub struct Energies {
+    pub number: u32,
+    pub place: u32,
+    pub total: u32,
+    pub sums: [u32; 8],
+}
+
 mod c {
-    use super::{Answer, Block, Found, Hertz, Looked, Trial, WeightedTrial};
+    use super::{Answer, Block, Energies, Found, Hertz, Looked, Trial, WeightedTrial};
 
     extern "C" {
         pub fn olivia_encode_block(
@@ -158,6 +168,14 @@ mod c {
             second: *mut u8,
             second_room: usize,
         ) -> WeightedTrial;
+        pub fn olivia_energy(mode: u32, tones: *const u16, n: usize) -> Energies;
+        pub fn olivia_weighted_energy(
+            mode: u32,
+            tones: *const u16,
+            n: usize,
+            weights: *const u8,
+            weights_n: usize,
+        ) -> Energies;
     }
 }
 
@@ -292,4 +310,13 @@ pub fn weighted_trial_run(
             second.len(),
         )
     }
+}
+
+pub fn energy(mode: u32, tones: &[u16]) -> Energies {
+    unsafe { c::olivia_energy(mode, start(tones), tones.len()) }
+}
+
+pub fn weighted_energy(mode: u32, tones: &[u16], weights: &[u8]) -> Energies {
+    let (from, count) = (start(weights), weights.len());
+    unsafe { c::olivia_weighted_energy(mode, start(tones), tones.len(), from, count) }
 }

@@ -3,15 +3,15 @@
 
 mod groups;
 
-use groups::{cases, compare, demand3, finding, listing, plain, range, records, sheet};
-use groups::{vectors, weight0, weighted, weights, words, Report};
+use groups::{cases, compare, demand3, energies, finding, listing, plain, raising, range, records};
+use groups::{sheet, vectors, weight0, weighted, weights, words, Report};
 use olivia_tests::paper;
 use std::io::{self, Read, Write};
 use std::process::ExitCode;
 
 type Group = (&'static str, fn() -> Report);
 
-const GROUPS: [Group; 14] = [
+const GROUPS: [Group; 16] = [
     ("vectors", vectors::run),
     ("words", words::run),
     ("sheet", sheet::run),
@@ -19,6 +19,8 @@ const GROUPS: [Group; 14] = [
     ("weights", weights::run),
     ("range", range::run),
     ("finding", finding::run),
+    ("energies", energies::run),
+    ("raising", raising::run),
     ("cases", cases::run),
     ("compare", compare::run),
     ("plain", plain::run),

@@ -1,5 +1,6 @@
 //! Calls the library so many times on one input, for a tool that counts instructions: `count WORK MODE TIMES`, where WORK is
-//! `encode`, `decode`, `weighted`, `message`, `find`, `find-long`, `bad-first`, `bad-last`, `check` or `check-long`.
+//! `encode`, `decode`, `weighted`, `message`, `find`, `find-long`, `energy`, `weighted-energy`, `bad-first`, `bad-last`, `check` or
+//! `check-long`.
 
 use olivia_tests::library;
 use olivia_tests::random::Random;
@@ -31,6 +32,8 @@ fn main() -> ExitCode {
         "message" => message(mode, times),
         "find" => find(mode, times, SEARCHED),
         "find-long" => find(mode, times, LONG_RUN),
+        "energy" => energy(mode, times),
+        "weighted-energy" => weighted_energy(mode, times),
         work => return look(work, mode, times),
     }
     ExitCode::SUCCESS
@@ -49,7 +52,10 @@ fn look(work: &str, mode: u32, times: u32) -> ExitCode {
 }
 
 fn usage() -> ExitCode {
-    eprintln!("usage: count encode|decode|weighted|message|find|find-long|bad-first|bad-last|check|check-long MODE TIMES");
+    eprintln!(
+        "usage: count encode|decode|weighted|message|find|find-long|energy|weighted-energy|\
+         bad-first|bad-last|check|check-long MODE TIMES"
+    );
     ExitCode::FAILURE
 }
 
@@ -69,10 +75,21 @@ fn encode(mode: u32, times: u32) {
     }
 }
 
-fn decode(mode: u32, times: u32) {
+/// The tones of a block.
+fn block_tones(mode: u32) -> [u16; 64] {
     let mut tones = [0; 64];
     let sent = library::encode_block(mode, &letters(mode as usize), &mut tones);
     assert_eq!(sent.number, 0);
+    tones
+}
+
+/// Of every size.
+fn weights() -> Vec<u8> {
+    (0..64).map(|t| 15 - t % 16).collect()
+}
+
+fn decode(mode: u32, times: u32) {
+    let tones = block_tones(mode);
     let mut codes = [0; 8];
     for _ in 0..times {
         let block = library::decode_block(mode, LEAST_LEAD, black_box(&tones), &mut codes);
@@ -80,12 +97,8 @@ fn decode(mode: u32, times: u32) {
     }
 }
 
-/// With weights of every size.
 fn weighted(mode: u32, times: u32) {
-    let mut tones = [0; 64];
-    let sent = library::encode_block(mode, &letters(mode as usize), &mut tones);
-    assert_eq!(sent.number, 0);
-    let weights: Vec<u8> = (0..64).map(|t| 15 - t % 16).collect();
+    let (tones, weights) = (block_tones(mode), weights());
     let mut codes = [0; 8];
     for _ in 0..times {
         let block = library::decode_weighted(
@@ -124,6 +137,23 @@ fn find(mode: u32, times: u32, count: usize) {
     for _ in 0..times {
         let found = library::find_block(mode, SEARCH_LEAD, black_box(&run), &mut codes);
         assert_eq!(black_box(found).answer.number, 13);
+    }
+}
+
+fn energy(mode: u32, times: u32) {
+    let tones = block_tones(mode);
+    for _ in 0..times {
+        let energies = library::energy(mode, black_box(&tones));
+        assert_eq!(black_box(energies).total, 4096);
+    }
+}
+
+/// With the squares of 0 to 15, which add up to 1,240, four times.
+fn weighted_energy(mode: u32, times: u32) {
+    let (tones, weights) = (block_tones(mode), weights());
+    for _ in 0..times {
+        let energies = library::weighted_energy(mode, black_box(&tones), black_box(&weights));
+        assert_eq!(black_box(energies).total, 64 * 4 * 1240);
     }
 }
 

@@ -81,6 +81,6 @@ module _ (h : ℕ → ℤ) (w : ℕ) (inside : w < 64) (half : 64 * energy h < 2
 pub majority : Majority
 unfolding weightedAt
 majority = record {
-  counts = only-best;
+  counts = λ h w l half. only-best h w l (omega arith);
   block = λ b tones weights q w l half. only-best (countIn b (symbolsOf tones) weights q) w l (omega (arith, counts-total b tones weights q));
 }

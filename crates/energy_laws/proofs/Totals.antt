@@ -8,7 +8,6 @@ use lib.Dec.{ltb, eqb}
 use lib.IntN.{pos}
 use lib.ListN.{length, replicate}
 use Rattle.lists.specs.Lists.{num}
-use Rattle.lists.specs.Sums.{total}
 use Rattle.lists.proofs.Fronts.{over-tab-at}
 use Rattle.lists.proofs.Sums.{total-ext}
 use Rattle.refusal.specs.Checks.{isMode}

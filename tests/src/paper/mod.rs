@@ -1,11 +1,12 @@
-//! Document 01 ("Olivia text link: from characters to tones and back"), with orders 1, 2, 3 and 5 of document 02, written down a
-//! second time, to hold the library and the listing program against.
+//! Document 01 ("Olivia text link: from characters to tones and back"), with orders 1, 2, 3, 5 and 13 of document 02, written
+//! down a second time, to hold the library and the listing program against.
 //!
 //! Each function quotes the rule that it is. Nothing here is fast or shared with the library: a correlation is a sum over 64
 //! places, and the symbol of a tone is searched for. A function hands back what an entry has to write; `room` is the length of the
 //! output that the entry would be lent.
 
 mod demand;
+mod energies;
 mod finding;
 mod frequencies;
 mod hearing;
@@ -19,6 +20,7 @@ mod weights;
 pub use demand::{
     damage, keeps_text, shuts_out_others, trial, weighted_trial, Trial, WeightedTrial,
 };
+pub use energies::{energy, weighted_energy, Energies};
 pub use finding::{find_block, Finding, LONGEST_RUN};
 pub use frequencies::frequency;
 pub use hearing::{correlations, decode_block, symbol_of, Character, Heard, PLAIN};

@@ -10,7 +10,7 @@ use lib.Pow.{pow-mono}
 use Rattle.refusal.specs.Checks.{isMode}
 use Rattle.refusal.proofs.Limits.{mode-range, mode-tones}
 use Rattle.chain.proofs.Values.{mode-values}
-use Rattle.tone_range.specs.Range.{HasTones, firstBadTone}
+use Rattle.tone_range.specs.Range.{firstBadTone}
 use Rattle.tone_range.proofs.Ranges.{in-range-tones}
 use Rattle.tone_range.proofs.Looks.{bad-found}
 use Rattle.weight_range.specs.Range.{HasWeights, firstBadWeight}

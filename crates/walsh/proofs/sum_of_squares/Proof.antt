@@ -27,7 +27,7 @@ array-copy-out-correlation c = search needs
 
 -- what the next correlation adds
 added : (c : tie.After-correlation Inv-loop μ-loop) → let l = c .before .before in Next (at (l .before .args .t1)) (l .loop .i)
-added c = let l = c .before .before in next (at (l .before .args .t1)) (l .loop .i) (c .before .loop-test .taken) (l .before .pre)
+added c = let l = c .before .before in next (at (l .before .args .t1)) (l .loop .i) (omega (arith, c .before .loop-test .taken)) (l .before .pre)
 
 mul-sum : tie.Need-mul-sum Inv-loop μ-loop
 mul-sum c = added c .fits

@@ -81,7 +81,7 @@ pub struct Decode {
 }
 
 /// The codes of whole blocks: a text, now and then with a 0 inside, with blocks of 0 after it, or over 1,024 codes.
-fn codes_on_the_air(random: &mut Random, b: usize) -> Vec<u8> {
+pub fn codes_on_the_air(random: &mut Random, b: usize) -> Vec<u8> {
     let most = b * block_count(b, LONGEST_MESSAGE);
     let length = match length(random, b) {
         LONGEST_MESSAGE => random.between(LONGEST_MESSAGE, most),
@@ -115,7 +115,7 @@ fn tones_on_the_air(random: &mut Random, b: usize, codes: &[u8], least_lead: u32
 }
 
 /// A count of tones that no message has: between whole blocks, or one block above the limit.
-fn wrong_count(random: &mut Random, b: usize, right: usize) -> usize {
+pub fn wrong_count(random: &mut Random, b: usize, right: usize) -> usize {
     match random.below(4) {
         0 => SYMBOLS * (block_count(b, LONGEST_MESSAGE) + 1),
         1 => right + 1,

@@ -2,9 +2,10 @@
 
 pub mod block;
 pub mod draw;
+mod energy;
 mod find;
 mod frequency;
-mod message;
+pub mod message;
 pub mod range;
 mod records;
 mod tally;
@@ -77,6 +78,8 @@ pub fn run() -> Report {
     many::<weighted_trial::Trial>(&mut random, &mut tally, 40_000)?;
     many::<range::Check>(&mut random, &mut tally, 120_000)?;
     many::<find::Find>(&mut random, &mut tally, 20_000)?;
+    many::<energy::Plain>(&mut random, &mut tally, 20_000)?;
+    many::<energy::Weighted>(&mut random, &mut tally, 20_000)?;
     tally.expect_every_refusal()?;
     tally.expect_every_kind()?;
     Ok(tally.lines())

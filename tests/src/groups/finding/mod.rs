@@ -4,7 +4,7 @@
 mod call;
 mod cases;
 mod compare;
-mod draw;
+pub mod draw;
 
 use super::Report;
 use olivia_tests::library::{Block, Found};
