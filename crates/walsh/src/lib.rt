@@ -1,4 +1,4 @@
-// Walsh words, and the fast transform that correlates 64 counts with all of them.
+// Walsh words, the fast transform that correlates 64 counts with all of them, and the energy of these correlations.
 ghost use mathlib.Core.Path.{_≡_};
 ghost use Prim.Native.Nat.{_≤_};
 ghost use Rattle.lists.specs.Lists.{at};
