@@ -20,6 +20,8 @@ use Rattle.block_decoder.specs.Decoding.{heardWeight}
 use Rattle.block_decoder.specs.Internal.{seenTo, heardWeights}
 use Rattle.block_decoder.proofs.Seen.{seen-count}
 use Rattle.energy.specs.Energies.{energyAt, squaredWeight, totalOf, summed}
+use Rattle.energy.specs.Internal.{heardOf}
+use Rattle.energy.specs.declared.Heard.{Heard}
 use Rattle.energy.specs.declared.Totalled.the-variants.{Total}
 use Rattle.energy.specs.declared.Energies.{Energies}
 
@@ -40,6 +42,10 @@ module _ (tones weights : List ℕ) where
   unfolding totalOf
   total-heard = ap (λ (n : ℕ). 64 * n) (total-ext 64 _ _ weight-square)
 
+  pub weights-heard : {h : Heard} → h ≡ heardOf tones weights → h .weights ≡ heardWeights tones weights
+  unfolding heardOf
+  weights-heard e = ap (λ (x : Heard). x .weights) e
+
   module _ (w : HasWeights 15 weights) where
     pub weights-few : (t : ℕ) → t < 64 → num (heardWeights tones weights) t ≤ 15
     unfolding heardWeight
@@ -54,12 +60,12 @@ module _ (tones weights : List ℕ) where
       unfolding symbolEnergies symbolEnergy energyAt
       sums-heard = rw e (tab-ext 0 _ _ b (λ q h. counts-energy _ _ (λ t l. seen-count tones weights w b e values v q t h l)))
 
-      -- the answer by arrays that hold what is heard
-      pub same-summed : (symbols heard : List ℕ) (n : ℕ) (sums : List ℕ) → symbols ≡ seenTo tones 64 → heard ≡ heardWeights tones weights
-          → n ≡ 64 * total 64 (λ t. num heard t * num heard t) → sums ≡ over (symbolEnergies b values symbols heard) (replicate 8 0)
+      -- the answer by what is heard
+      pub same-summed : (h : Heard) (n : ℕ) (sums : List ℕ) → h ≡ heardOf tones weights → n ≡ 64 * total 64 (λ t. num (h .weights) t * num (h .weights) t)
+          → sums ≡ over (symbolEnergies b values (h .symbols) (h .weights)) (replicate 8 0)
           → _≡_ {A = Energies} (record { answer = Total n; sums = sums }) (summed b tones weights)
-      unfolding summed
-      same-summed symbols heard n sums p q f g =
-          let a : n ≡ totalOf tones weights = f ∙ rw q total-heard in
-          let c : sums ≡ over (tab (energyAt b tones weights) b) (replicate 8 0) = g ∙ ap (λ (x : List ℕ). over x (replicate 8 0)) (rw (p, q) sums-heard) in
+      unfolding summed heardOf
+      same-summed h n sums p f g =
+          let a : n ≡ totalOf tones weights = f ∙ rw p total-heard in
+          let c : sums ≡ over (tab (energyAt b tones weights) b) (replicate 8 0) = g ∙ ap (λ (x : List ℕ). over x (replicate 8 0)) (rw p sums-heard) in
           λ i. record { answer = Total (a i); sums = c i }

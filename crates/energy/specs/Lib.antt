@@ -1,1 +1,2 @@
 pub mod Energies
+pub mod Internal

@@ -15,7 +15,8 @@ ghost use Rattle.lists.specs.Sums.{total};
 ghost use Rattle.chain.specs.Chain.{missingMark};
 ghost use Rattle.chain.specs.Tables.{symbolOf};
 ghost use Rattle.tone_range.specs.Range.{HasTones};
-ghost use Rattle.block_decoder.specs.Internal.{seenSymbol, seenTo, heardWeights};
+ghost use Rattle.block_decoder.specs.Internal.{seenSymbol};
+ghost use Rattle.energy.specs.Internal.{heardOf};
 ghost use Rattle.energy.specs.Energies.{refused, heardEnergies, blockEnergies, weightedEnergies};
 
 // What each of the sums equals, or the refusal.
@@ -28,6 +29,11 @@ pub enum Totalled {
 pub struct Energies {
     pub answer: Totalled,
     pub sums: [u32; 8],
+}
+
+struct Heard {
+    symbols: [u8; 64],
+    weights: [u8; 64],
 }
 
 // The energies of 64 tones.
@@ -67,12 +73,13 @@ fn of_heard(greatest: u8, mode: u32, tones: &[u16], weights: &[u8]) -> Energies
     if bad_weight < 64 {
         return refused(refusal::WEIGHT, bad_weight);
     }
-    let symbols = symbols(tones);
-    let heard = heard_weights(tones, weights);
+    let heard = hear(tones, weights);
+    let symbols = heard.symbols;
+    let counting = heard.weights;
     let values = interleaver::values(mode);
     Energies {
-        answer: Totalled::Total(total(&heard)),
-        sums: characters::energies(mode, &values, &symbols, &heard),
+        answer: Totalled::Total(total(&counting)),
+        sums: characters::energies(mode, &values, &symbols, &counting),
     }
 }
 
@@ -96,33 +103,25 @@ fn symbol(table: &[u8; 256], tone: u16) -> u8
     }
 }
 
-// The symbols of 64 tones, 0 for a missing one.
-fn symbols(tones: &[u16]) -> [u8; 64]
-    requires { ⌜ HasTones 256 (now tones) ⌝ }
-    ensures { λ r. ⌜ r ≡ seenTo (now (tones .entry)) 64 ⌝ }
+// What is heard of 64 tones: the symbol of each and the weight that it counts with, both 0 for a missing one.
+fn hear(tones: &[u16], weights: &[u8]) -> Heard
+    requires { ⌜ HasTones 256 (now tones) × (length (now weights) ≡ 64) ⌝ }
+    ensures { λ r. ⌜ r ≡ heardOf (now (tones .entry)) (now (weights .entry)) ⌝ }
 {
     let table = gray::symbols();
     let mut symbols = [0u8; 64];
-    let mut t: usize = 0;
-    while t < 64 {
-        symbols[t] = symbol(&table, tones[t]);
-        t += 1;
-    }
-    symbols
-}
-
-// The weights that count: a missing tone has none.
-fn heard_weights(tones: &[u16], weights: &[u8]) -> [u8; 64]
-    requires { ⌜ (length (now tones) ≡ 64) × (length (now weights) ≡ 64) ⌝ }
-    ensures { λ r. ⌜ r ≡ heardWeights (now (tones .entry)) (now (weights .entry)) ⌝ }
-{
     let mut heard = [0u8; 64];
     let mut t: usize = 0;
     while t < 64 {
-        heard[t] = block_decoder::heard_weight(tones[t], weights[t]);
+        let tone = tones[t];
+        symbols[t] = symbol(&table, tone);
+        heard[t] = block_decoder::heard_weight(tone, weights[t]);
         t += 1;
     }
-    heard
+    Heard {
+        symbols,
+        weights: heard,
+    }
 }
 
 fn squared(weight: u8) -> u32

@@ -17,7 +17,7 @@ use Rattle.weight_range.specs.Range.{HasWeights, firstBadWeight}
 use Rattle.weight_range.proofs.Ranges.{in-range-weights, fewer-weights}
 use Rattle.energy.specs.Energies.{refused}
 use Rattle.energy.proofs.EnergyCases.{Passed, refuses-mode, refuses-count, refuses-weights, refuses-tone, refuses-weight, sums-up}
-use Rattle.energy.proofs.Summed.{weights-few, same-summed}
+use Rattle.energy.proofs.Summed.{weights-heard, weights-few, same-summed}
 use Rattle.energy.proofs.of_heard.Statement.{statement}
 use Rattle.energy.proofs.of_heard.Tie as tie
 
@@ -102,29 +102,26 @@ has-weights c =
     let k = c .before .before .before .before in
     fewer-weights _ _ 15 (k .before .before .before .before .before .before .before .before .pre) (in-range-weights _ _ (passed (k .before .before) .weighed) (weighed c))
 
-symbols-requires : tie.Need-symbols-requires
-symbols-requires c κs =
+hear-requires : tie.Need-hear-requires
+hear-requires c κs =
     let k = c .before .before .before .before in
     let p = passed (k .before .before) in
     let mode = k .before .before .before .before .before .before .before .before .args .mode in
-    let tones = in-range-tones mode _ (p .count) (in-range (c .before .before)) in
-    record {
-      count = tones .count;
-      each = λ t l. ⊎-elim (λ h. inl (lt-of-lt-of-le h (pow-mono {i = mode} {j = 8} (mode-range mode (p .mode) .1)))) (λ e. inr e) (tones .each t l);
-    }
-
-heard-weights-requires : tie.Need-heard-weights-requires
-heard-weights-requires c κs =
-    let p = passed (c .before .before .before .before .before .before .before) in
-    (p .count, p .weighed)
+    let tones = in-range-tones mode _ (p .count) (in-range (c .before .before)) in (
+      record {
+        count = tones .count;
+        each = λ t l. ⊎-elim (λ h. inl (lt-of-lt-of-le h (pow-mono {i = mode} {j = 8} (mode-range mode (p .mode) .1)))) (λ e. inr e) (tones .each t l);
+      },
+      p .weighed,
+    )
 
 values-requires : tie.Need-values-requires
 values-requires c κs = search needs
 
 total-requires : tie.Need-total-requires
 total-requires c κs =
-    let h = c .before .before in
-    rw (h .heard-weights .ensures) (weights-few _ _ (has-weights (h .before .before)))
+    let h = c .before .before .before .before in
+    rw (weights-heard _ _ (h .hear .ensures)) (weights-few _ _ (has-weights (h .before)))
 
 energies-requires : tie.Need-energies-requires
 energies-requires c κs = search needs
@@ -133,10 +130,10 @@ returns-6 : tie.Need-returns-6
 returns-6 c =
     let t = c .before .before .before .before in
     let v = t .before .before in
-    let h = v .before in
-    let e = h .before .before in
+    let h = v .before .before .before in
+    let e = h .before in
     let p = passed (e .before .before .before .before .before .before) in
-    same-summed _ _ (has-weights e) _ (p .mode) _ (v .values .ensures ∙ mode-values _ (p .mode)) _ _ _ _ (h .before .symbols .ensures) (h .heard-weights .ensures) (t .total .ensures) (c .energies .ensures)
+    same-summed _ _ (has-weights e) _ (p .mode) _ (v .values .ensures ∙ mode-values _ (p .mode)) _ _ _ (h .hear .ensures) (t .total .ensures) (c .energies .ensures)
     ∙ sym (sums-up _ _ _ _ p (in-range (e .before .before)) (weighed e))
 
 pub of-heard-spec : {M : Type 1} → statement M
@@ -157,8 +154,7 @@ of-heard-spec =
     first-bad-weight-requires
     refused-requires-5
     returns-5
-    symbols-requires
-    heard-weights-requires
+    hear-requires
     values-requires
     total-requires
     energies-requires
