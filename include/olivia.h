@@ -135,7 +135,8 @@ olivia_block olivia_decode_block(uint32_t mode, uint32_t least_lead, const uint1
  * 10. Accepted as there. With weight 15 throughout and 15 times the set lead it answers as olivia_decode_block
  * does, but that every lead and correlation is 15 times as large, and writes the same; with weight 1 throughout
  * and the same set lead, from 1 to 64, it answers and writes exactly the same. A tone of weight 0 counts like a
- * missing one, but has to be one of the mode's all the same. */
+ * missing one, but has to be one of the mode's all the same. What olivia_decode_block says of a greater set lead
+ * holds here up to 960. */
 olivia_block olivia_decode_weighted(uint32_t mode, uint32_t least_lead, const uint16_t *tones, size_t n,
                                     const uint8_t *weights, size_t weights_n, uint8_t *codes, size_t room);
 
@@ -147,7 +148,8 @@ olivia_block olivia_decode_weighted(uint32_t mode, uint32_t least_lead, const ui
  * start. If a block was sent, and is heard from place s of the run on with u tones missing and r replaced, then a
  * start is found that is s or before it, provided that 64 - 2u - 4r is at least the set lead; and if the start
  * found is s, and 2u + 4r is below 64 plus the set lead, the codes are the text sent. An earlier start can be
- * accepted by chance, with a text that nobody sent; how often, by mode and set lead, is in docs/SEARCH.md. */
+ * accepted by chance, with a text that nobody sent; how often, by mode and set lead, is in docs/SEARCH.md. With a
+ * smaller set lead the start found is the same or an earlier one. */
 olivia_found olivia_find_block(uint32_t mode, uint32_t least_lead, const uint16_t *run, size_t n,
                                uint8_t *codes, size_t room);
 
@@ -170,7 +172,7 @@ olivia_answer olivia_encode_message(uint32_t mode, const uint8_t *text, size_t n
 /* Decodes the n tones of a message. Every block is decided before anything is written. Checks 1, 2, 7, 9, 8,
  * 10, 11, 12. Accepted: count is the place after the last code that is not 0, or 0, and so many elements at the
  * front of text are the message's codes. The room asked for, b bytes a block, counts the filling that is not
- * written. */
+ * written. With a greater set lead, up to 64, answer and text are the same, or the answer is refusal 10. */
 olivia_answer olivia_decode_message(uint32_t mode, uint32_t least_lead, const uint16_t *tones, size_t n,
                                     uint8_t *text, size_t room);
 

@@ -55,8 +55,7 @@ pub fn energies(mode: u32, values: &[u8; 72], symbols: &[u8; 64], weights: &[u8;
     let b = mode as usize;
     let mut q: usize = 0;
     while q < b {
-        let signs = signs(q, &keys, values, symbols);
-        energies[q] = lead_finder::energy(signs, weights);
+        energies[q] = lead_finder::energy(signs(q, &keys, values, symbols), weights);
         q += 1;
     }
     energies

@@ -120,12 +120,15 @@ pub fn energies(energies: Energies) -> EnergiesAnswer
             total,
             sums,
         },
-        Totalled::Refused(refusal) => EnergiesAnswer {
-            number: refusal.number as u32,
-            place: capped(refusal.place),
-            total: 0,
-            sums,
-        },
+        Totalled::Refused(refusal) => {
+            let told = refused(refusal);
+            EnergiesAnswer {
+                number: told.number,
+                place: told.place,
+                total: 0,
+                sums,
+            }
+        }
     }
 }
 

@@ -42,11 +42,11 @@ fn sum_of_squares(correlations: [i32; 64]) -> u32
     ensures { λ r. ⌜ r ≡ energy (at correlations) ⌝ }
 {
     let mut sum: u32 = 0;
-    let mut i: usize = 0;
-    while i < 64 {
-        let correlation = correlations[i];
+    let mut word: usize = 0;
+    while word < 64 {
+        let correlation = correlations[word];
         sum += (correlation * correlation) as u32;
-        i += 1;
+        word += 1;
     }
     sum
 }

@@ -9,19 +9,14 @@ enum-known-answer c = search needs
 enum-known-answer-2 : tie.Need-enum-known-answer-2
 enum-known-answer-2 c = search needs
 
-cast-t7 : tie.Need-cast-t7
-cast-t7 c = search needs
-
-capped-requires : tie.Need-capped-requires
-capped-requires c κs = search needs
+refused-requires : tie.Need-refused-requires
+refused-requires c κs = search needs
 
 returns : tie.Need-returns
 returns c = rw (c .before .answer .given .1) refl
 
 returns-2 : tie.Need-returns-2
-returns-2 c = rw (c .before .before .before .answer2 .given .1, c .capped .ensures) refl
+returns-2 c = rw (c .before .before .answer2 .given .1, c .refused .ensures) refl
 
 pub energies-spec : {M : Type 1} → statement M
-energies-spec =
-    tie.close
-    (tie.spec enum-known-answer enum-known-answer-2 cast-t7 capped-requires returns returns-2)
+energies-spec = tie.close (tie.spec enum-known-answer enum-known-answer-2 refused-requires returns returns-2)

@@ -10,10 +10,10 @@ use Rattle.walsh.proofs.sum_of_squares.Statement.{statement}
 use Rattle.walsh.proofs.sum_of_squares.Tie as tie
 
 abbrev Inv-loop : tie.InvT-loop
-Inv-loop correlations sum₀ i₀ sum i = (i ≤ 64) × (sum ≡ total i (λ c. square (at correlations c)))
+Inv-loop correlations sum₀ word₀ sum word = (word ≤ 64) × (sum ≡ total word (λ c. square (at correlations c)))
 
 abbrev μ-loop : tie.MeasureT-loop
-μ-loop correlations sum₀ i₀ sum i = 64 - i
+μ-loop correlations sum₀ word₀ sum word = 64 - word
 
 loop-holds : tie.Need-loop-holds Inv-loop μ-loop
 unfolding total
@@ -26,8 +26,8 @@ array-copy-out-correlation : tie.Need-array-copy-out-correlation Inv-loop μ-loo
 array-copy-out-correlation c = search needs
 
 -- what the next correlation adds
-added : (c : tie.After-correlation Inv-loop μ-loop) → let l = c .before .before in Next (at (l .before .args .t1)) (l .loop .i)
-added c = let l = c .before .before in next (at (l .before .args .t1)) (l .loop .i) (omega (arith, c .before .loop-test .taken)) (l .before .pre)
+added : (c : tie.After-correlation Inv-loop μ-loop) → let l = c .before .before in Next (at (l .before .args .t1)) (l .loop .word)
+added c = let l = c .before .before in next (at (l .before .args .t1)) (l .loop .word) (omega (arith, c .before .loop-test .taken)) (l .before .pre)
 
 mul-sum : tie.Need-mul-sum Inv-loop μ-loop
 mul-sum c = added c .fits
@@ -38,8 +38,8 @@ cast-sum c = rw (added c .value) (tt, omega (arith, added c .small))
 add-sum : tie.Need-add-sum Inv-loop μ-loop
 add-sum c = rw (added c .value) (omega (arith, added c .small, c .before .before .loop .inv .1))
 
-add-i : tie.Need-add-i Inv-loop μ-loop
-add-i c = search needs
+add-word : tie.Need-add-word Inv-loop μ-loop
+add-word c = search needs
 
 loop-less : tie.Need-loop-less Inv-loop μ-loop
 loop-less c = search needs
@@ -51,7 +51,7 @@ returns : tie.Need-returns Inv-loop μ-loop
 unfolding energy
 returns c =
     let l = c .before in
-    let done : l .loop .i ≡ 64 = omega arith in
+    let done : l .loop .word ≡ 64 = omega arith in
     rw done at (l .loop .inv .1)
 
 pub sum-of-squares-spec : {M : Type 1} → statement M
@@ -66,7 +66,7 @@ sum-of-squares-spec =
     mul-sum
     cast-sum
     add-sum
-    add-i
+    add-word
     loop-less
     loop-again
     returns)
