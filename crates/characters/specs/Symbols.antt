@@ -1,4 +1,5 @@
--- The decisions on a block's characters, and their energies, by its symbols, none of which is missing, a weight for each, and the values of the places in a symbol.
+-- The decisions on a block's characters, and their energies, by its symbols, none of which is missing, a weight for each, and the values of the
+-- places in a symbol.
 use mathlib.Core.Bool.{Bool, cond, not}
 use mathlib.Core.List.{List, []}
 use Prim.Native.Nat.{ℕ, _+_, _%_, min}
