@@ -35,6 +35,8 @@
  *   12  a message's text is over 1,024 codes; place 1,024
  *   13  at no start of a run are 64 tones accepted
  *   14  a weight above 15, of a missing tone too; the lowest place
+ *   15  a measured frequency is infinite or not a number
+ *   16  a measured frequency lies below the band's lower edge, or at or above its upper
  */
 #ifndef OLIVIA_H
 #define OLIVIA_H
@@ -97,6 +99,13 @@ typedef struct {
     uint32_t place;
     double hertz;
 } olivia_hertz;
+
+/* number 0: place is 0, tone is the tone that a measured frequency belongs to, and hertz_off how far it is off that
+ * tone. Else the refusal's number and place, and tone and hertz_off are 0. */
+typedef struct {
+    uint32_t number, place, tone;
+    double hertz_off;
+} olivia_located;
 
 /* The answers of the three calls of a trial, and the tones of heard that are replaced and missing. A count that
  * 32 bits do not hold is told as 4294967295. */
@@ -185,6 +194,15 @@ olivia_looked olivia_check_tones(uint32_t mode, const uint16_t *tones, size_t n)
 /* The frequency of a tone in Hz, exactly: centre - width / 2 + spacing / 2 + spacing * tone, where spacing is
  * width / 2^b. Checks 1, 3, 4, 8; the missing mark is no tone here. */
 olivia_hertz olivia_frequency(uint32_t mode, uint32_t width, uint32_t centre, uint16_t tone);
+
+/* The tone that a measured frequency hertz belongs to, and how far it is off that tone's frequency. The band reaches
+ * from centre - width / 2 up to, but without, centre + width / 2. Tone n owns the stretch from the lower edge plus n
+ * spacings up to, but without, the next such edge. hertz may be any double and is compared with these edges by its
+ * own value, to which nothing is rounded; -0.0 is 0. Checks 1, 3, 4, 15, 16. Accepted exactly if hertz is a number in
+ * the band: tone is the one that owns it, and hertz_off is hertz - f, one subtraction of doubles, for the frequency f
+ * that olivia_frequency gives of that tone. It is at least minus half a spacing, and below half a spacing. For f itself
+ * it is 0.0. */
+olivia_located olivia_locate(uint32_t mode, uint32_t width, uint32_t centre, double hertz);
 
 /* Encodes the block text into tones, decodes the tones written into one, and decodes heard into two. Each answer
  * and output is that of the call of olivia_encode_block or olivia_decode_block; if encoding is refused, no tone

@@ -3,6 +3,7 @@
 #include <olivia.h>
 
 #include <assert.h>
+#include <math.h>
 #include <stdio.h>
 #include <string.h>
 
@@ -20,6 +21,10 @@ static_assert(offsetof(olivia_found, start) == 16 && offsetof(olivia_found, char
 static_assert(offsetof(olivia_looked, place) == 8 && offsetof(olivia_looked, looked) == 16 && sizeof(olivia_looked) == 24,
               "a number of 32 bits and two of 64");
 static_assert(offsetof(olivia_hertz, hertz) == 8 && sizeof(olivia_hertz) == 16, "two numbers and a double");
+static_assert(offsetof(olivia_located, number) == 0 && offsetof(olivia_located, place) == 4 &&
+                  offsetof(olivia_located, tone) == 8 && offsetof(olivia_located, hertz_off) == 16 &&
+                  sizeof(olivia_located) == 24,
+              "three numbers and a double");
 static_assert(offsetof(olivia_trial, replaced) == 48 && sizeof(olivia_trial) == 56, "three answers and two numbers");
 static_assert(offsetof(olivia_weighted_trial, damage) == 48 && sizeof(olivia_weighted_trial) == 52,
               "three answers and a number");
@@ -179,6 +184,33 @@ static void frequencies(void)
     check("a width of 999", refused.number == 3 && refused.place == 0 && refused.hertz == 0);
 }
 
+static int is_at(olivia_located at, uint32_t tone, double hertz_off)
+{
+    return at.number == 0 && at.place == 0 && at.tone == tone && at.hertz_off == hertz_off;
+}
+
+static int is_nowhere(olivia_located at, uint32_t number)
+{
+    return at.number == number && at.place == 0 && at.tone == 0 && at.hertz_off == 0 && !signbit(at.hertz_off);
+}
+
+/* The band of case 12: from 1000 up to 2000 Hz, with a spacing of 31.25 Hz. */
+static void measurements(void)
+{
+    check("case 12 heard at tone 31", is_at(olivia_locate(5, 1000, 1500, 1984.375), 31, 0));
+    check("3 Hz below tone 31", is_at(olivia_locate(5, 1000, 1500, 1981.375), 31, -3));
+    check("the lower edge", is_at(olivia_locate(5, 1000, 1500, 1000), 0, -15.625));
+    check("under the lower edge", is_nowhere(olivia_locate(5, 1000, 1500, 999.9999999999999), 16));
+    check("the edge of tone 1", is_at(olivia_locate(5, 1000, 1500, 1031.25), 1, -15.625));
+    check("the upper edge", is_nowhere(olivia_locate(5, 1000, 1500, 2000), 16));
+    check("-0.0 in a band from 0", is_at(olivia_locate(5, 1000, 500, -0.0), 0, -15.625));
+    check("an infinity", is_nowhere(olivia_locate(5, 1000, 1500, INFINITY), 15));
+    check("not a number", is_nowhere(olivia_locate(5, 1000, 1500, NAN), 15));
+    check("a centre of 10,001 and not a number", is_nowhere(olivia_locate(5, 1000, 10001, NAN), 4));
+    check("a width of 999 and a centre of 10,001", is_nowhere(olivia_locate(5, 999, 10001, NAN), 3));
+    check("mode 9 and a width of 999", is_nowhere(olivia_locate(9, 999, 10001, NAN), 1));
+}
+
 static void trials(void)
 {
     const uint8_t text[2] = {64, 127};
@@ -325,6 +357,7 @@ int main(void)
     range_checks();
     searches();
     frequencies();
+    measurements();
     trials();
     weights();
     weighted_trials();

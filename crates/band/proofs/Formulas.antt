@@ -11,6 +11,8 @@ use lib.Ieee.Exact.{HasValue}
 use Rattle.scaled.specs.Exact.{scaled, whole}
 use Rattle.band.specs.Limits.{fault}
 use Rattle.band.specs.Frequencies.{edge512, spacing512, half512, tone512, bandOf, hertzOf, hertzIn}
+use Rattle.band.specs.Locating.{toneEdge512}
+use Rattle.band.specs.Internal.{toneEdgeIn}
 use Rattle.band.specs.declared.Band.{Band}
 use Rattle.scaled.proofs.Scaling.{scaled-value, cast-exact, sum-exact, difference-exact, product-exact, quotient-exact}
 use Rattle.scaled.proofs.Rounding.{same-value}
@@ -35,21 +37,21 @@ module _ (b : ℕ) (h : b ≤ 8) where
       let nine : 9 - b + b ≡ 9 = omega arith in
       sym (pow-add 2 (9 - b) b) ∙ ap (λ (k : ℕ). 2 ^ k) nine
 
-  halved : (w : ℕ) → spacing512 b w ≡ half512 b w * 2
+  pub halved : (w : ℕ) → spacing512 b w ≡ half512 b w * 2
   unfolding spacing512 half512
   halved w =
       let one : 9 - b ≡ 8 - b + 1 = omega arith in
       ap (λ (k : ℕ). w * 2 ^ k) one ∙ ap (λ (k : ℕ). w * k) (pow-add 2 (8 - b) 1) ∙ sym (mul-assoc w (2 ^ (8 - b)) 2)
 
-  in-tones : (w : ℕ) → spacing512 b w * 2 ^ b ≡ 512 * w
+  pub in-tones : (w : ℕ) → spacing512 b w * 2 ^ b ≡ 512 * w
   unfolding spacing512
   in-tones w = mul-assoc w (2 ^ (9 - b)) (2 ^ b) ∙ ap (λ (k : ℕ). w * k) powers ∙ mul-comm w 512
 
-spacing-high : (b w : ℕ) → 1 ≤ b → w ≤ 2000 → spacing512 b w ≤ 512000
+pub spacing-high : (b w : ℕ) → 1 ≤ b → w ≤ 2000 → spacing512 b w ≤ 512000
 unfolding spacing512
 spacing-high b w h l = mul-le-mul l (pow-mono {i = 9 - b} {j = 8} (omega arith))
 
-edge-high : (w c : ℕ) → c ≤ 10000 → edge512 w c ≤ 5120000
+pub edge-high : (w c : ℕ) → c ≤ 10000 → edge512 w c ≤ 5120000
 unfolding edge512
 edge-high w c h = omega arith
 
@@ -95,6 +97,16 @@ module _ (b w c : ℕ) (e : fault b w c 0 ≡ 0) where
       ap (λ (x : Float). add binary64 (scaled (edge512 w c)) x) half ∙ sum-exact (edge512 w c) (half512 b w) (omega arith) in
       ap₂ (λ (x y : Float). add binary64 x y) first (product-exact (spacing512 b w) n (omega arith) (omega arith))
       ∙ sum-exact (edge512 w c + half512 b w) (spacing512 b w * n) (omega arith)
+
+  pub tone-edge-exact : (n : ℕ) → n < 2 ^ 16 → toneEdgeIn (bandOf b w c) n ≡ scaled (toneEdge512 b w c n)
+  unfolding toneEdgeIn bandOf toneEdge512
+  tone-edge-exact n l =
+      let h = limits in
+      let low : edge512 w c ≤ 5120000 = edge-high w c (h .centre-high) in
+      let small : spacing512 b w ≤ 512000 = spacing-high b w (h .mode-low) (h .width-high) in
+      let product : spacing512 b w * n ≤ 512000 * 65536 = mul-le-mul small (le-of-lt l) in
+      ap (λ (x : Float). add binary64 (scaled (edge512 w c)) x) (product-exact (spacing512 b w) n (omega arith) (omega arith))
+      ∙ sum-exact (edge512 w c) (spacing512 b w * n) (omega arith)
 
   pub tone-hertz-exact : (n : ℕ) → n < 2 ^ b → hertzIn (bandOf b w c) n ≡ hertzOf b w c n
   tone-hertz-exact n l =

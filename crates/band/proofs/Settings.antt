@@ -3,8 +3,8 @@ use mathlib.Core.Path.{_≡_, refl}
 use mathlib.Core.Bool.{Bool, true, false, cond, not, _&&_, _||_}
 use Prim.Native.Nat.{ℕ, _*_, _%_, _^_, _<_, _≤_}
 use native.Mathlib.Omega.{arith}
-use borrow.Author.Tests.{leb-true, eqb-true, lt-ltb}
-use lib.Dec.{leb, ltb, eqb}
+use borrow.Author.Tests.{leb-true, ltb-true, eqb-true, lt-ltb}
+use lib.Dec.{leb, ltb, eqb, lit≤}
 use lib.Pow.{pow-pos}
 use Rattle.refusal.specs.Checks.{isMode}
 use Rattle.refusal.proofs.Limits.{mode-range, mode-tones}
@@ -60,16 +60,29 @@ other-tone b w c m n e l =
 pub tone-0 : (b w c n : ℕ) → fault b w c n ≡ 0 → fault b w c 0 ≡ 0
 tone-0 b w c n e = other-tone b w c n 0 e (pow-pos b)
 
-width-range : (w : ℕ) → isWidth w ≡ true → w ≤ 2000
+pub tone-range : (b w c n : ℕ) → fault b w c n ≡ 0 → n < 2 ^ b
+unfolding fault
+tone-range b w c n e =
+    let p = passed b w c n e in
+    by (ltb n (2 ^ b)) refl (rw (p .mode, p .width, p .centre) at e)
+  where
+    by : (t : Bool) → ltb n (2 ^ b) ≡ t → _≡_ {A = ℕ} (cond (not t) 8 0) 0 → n < 2 ^ b
+    by true h e = ltb-true n (2 ^ b) h
+    by false h e = absurd (omega (arith, e))
+
+width-range : (w : ℕ) → isWidth w ≡ true → (1 ≤ w) × (w ≤ 2000)
 width-range w e = by (eqb w 125) refl (eqb w 250) refl (eqb w 500) refl (eqb w 1000) refl (eqb w 2000) refl e
   where
+    is : (v : ℕ) → 1 ≤ v → v ≤ 2000 → eqb w v ≡ true → (1 ≤ w) × (w ≤ 2000)
+    is v low high p = rw (eqb-true w v p) (low, high)
+
     by : (p : Bool) → eqb w 125 ≡ p → (q : Bool) → eqb w 250 ≡ q → (r : Bool) → eqb w 500 ≡ r → (s : Bool) → eqb w 1000 ≡ s
-        → (t : Bool) → eqb w 2000 ≡ t → p || q || r || s || t ≡ true → w ≤ 2000
-    by true p _ q _ r _ s _ t e = omega (arith, eqb-true w 125 p)
-    by false p true q _ r _ s _ t e = omega (arith, eqb-true w 250 q)
-    by false p false q true r _ s _ t e = omega (arith, eqb-true w 500 r)
-    by false p false q false r true s _ t e = omega (arith, eqb-true w 1000 s)
-    by false p false q false r false s true t e = omega (arith, eqb-true w 2000 t)
+        → (t : Bool) → eqb w 2000 ≡ t → p || q || r || s || t ≡ true → (1 ≤ w) × (w ≤ 2000)
+    by true p _ q _ r _ s _ t e = is 125 (lit≤ tt) (lit≤ tt) p
+    by false p true q _ r _ s _ t e = is 250 (lit≤ tt) (lit≤ tt) q
+    by false p false q true r _ s _ t e = is 500 (lit≤ tt) (lit≤ tt) r
+    by false p false q false r true s _ t e = is 1000 (lit≤ tt) (lit≤ tt) s
+    by false p false q false r false s true t e = is 2000 (lit≤ tt) (lit≤ tt) t
     by false p false q false r false s false t e = let z : _≡_ {A = ℕ} 0 1 = cc in absurd (omega arith)
 
 centre-range : (w c : ℕ) → isCentre w c ≡ true → (c ≤ 10000) × (w ≤ 2 * c)
@@ -84,6 +97,7 @@ centre-range w c e = by (leb c 10000) refl (leb w (2 * c)) refl e
 pub record Within (b w c : ℕ) : Type 0 where
   pub mode-low : 1 ≤ b
   pub mode-high : b ≤ 8
+  pub width-low : 1 ≤ w
   pub width-high : w ≤ 2000
   pub centre-high : c ≤ 10000
   pub centre-low : w ≤ 2 * c
@@ -91,11 +105,13 @@ pub record Within (b w c : ℕ) : Type 0 where
 pub within : (b w c n : ℕ) → fault b w c n ≡ 0 → Within b w c
 within b w c n e =
     let p = passed b w c n e in
+    let width = width-range w (p .width) in
     let centre = centre-range w c (p .centre) in
     record {
       mode-low = mode-range b (p .mode) .0;
       mode-high = mode-range b (p .mode) .1;
-      width-high = width-range w (p .width);
+      width-low = width .0;
+      width-high = width .1;
       centre-high = centre .0;
       centre-low = centre .1;
     }

@@ -1,3 +1,5 @@
 pub mod Limits
 pub mod Frequencies
+pub mod Locating
+pub mod Internal
 pub mod Laws

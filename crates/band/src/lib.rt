@@ -1,11 +1,18 @@
-// Tone frequencies: document 01, "Tone frequencies". Every step is exact in f64.
+// Tone frequencies: document 01, "Tone frequencies", every step exact in f64; and the tone that a measured frequency belongs to:
+// document 02, order 4.
 use refusal::Refusal;
 use refusal::checks;
+ghost use mathlib.Core.Bool.{true};
 ghost use mathlib.Core.Path.{_≡_};
 ghost use Prim.Native.Nat.{_%_, _^_};
 ghost use lib.Dec.{ltb};
+ghost use lib.Ieee.Scale.{finite};
+ghost use Rattle.refusal.specs.Checks.{isMode};
+ghost use Rattle.refusal.specs.Refused.{refusedAt};
 ghost use Rattle.band.specs.Limits.{isWidth, isCentre, fault};
 ghost use Rattle.band.specs.Frequencies.{bandOf, hertzIn, plan, frequencyOf};
+ghost use Rattle.band.specs.Locating.{locatedOf, refusalOf, locateFault};
+ghost use Rattle.band.specs.Internal.{toneEdgeIn, holdsIn, Between, OwnerIn};
 
 pub mod laws;
 
@@ -24,6 +31,14 @@ pub enum Planned {
 // The frequency in Hz, or the refusal.
 pub enum Tuned {
     Hertz(f64),
+    Refused(Refusal),
+}
+
+// The tone that a measurement belongs to and how many Hz it is off that tone, or why there is none.
+pub enum Located {
+    Heard(u16, f64),
+    NotFinite,
+    OutsideBand,
     Refused(Refusal),
 }
 
@@ -50,6 +65,39 @@ impl Band {
         let half = self.spacing / 2.0;
         self.edge + half + self.spacing * (tone as f64)
     }
+
+    // Where a tone's stretch begins, and the one of the tone below ends.
+    fn tone_edge(self, tone: u16) -> f64
+        ensures { λ r. ⌜ r ≡ toneEdgeIn self tone ⌝ }
+    {
+        self.edge + self.spacing * (tone as f64)
+    }
+
+    // From the lower edge up to, but without, the upper, where the stretch of one more tone would begin.
+    fn holds(self, mode: u32, hertz: f64) -> bool
+        ensures { λ r. ⌜ r ≡ holdsIn self (2 ^ (mode % 16)) hertz ⌝ }
+    {
+        let upper = self.tone_edge(checks::tone_count(mode));
+        hertz >= self.edge && !(hertz >= upper)
+    }
+
+    // The tone whose stretch holds a measurement in the band, by halving: one comparison for each bit of a tone, so 8 at most.
+    fn owner(self, mode: u32, hertz: f64) -> u16
+        requires { ⌜ isMode mode ≡ true ⌝ }
+        requires { ⌜ Between self hertz 0 (2 ^ mode) ⌝ }
+        ensures { λ r. ⌜ OwnerIn self (2 ^ mode) hertz r ⌝ }
+    {
+        let mut tone: u16 = 0;
+        let mut count = checks::tone_count(mode);
+        for _ in 0..mode {
+            count /= 2;
+            let next = tone + count;
+            if hertz >= self.tone_edge(next) {
+                tone = next;
+            }
+        }
+        tone
+    }
 }
 
 // The frequency of a tone of a mode, for a width and a centre, both in Hz.
@@ -62,6 +110,35 @@ pub fn frequency(mode: u32, width: u32, centre: u32, tone: u16) -> Tuned
     }
     let band = band_of(mode, width, centre);
     Tuned::Hertz(band.hertz(tone))
+}
+
+// The tone that a measured frequency in Hz belongs to, and the measurement less that tone's frequency.
+pub fn locate(mode: u32, width: u32, centre: u32, hertz: f64) -> Located
+    ensures answer { λ r. ⌜ r ≡ locatedOf mode width centre hertz ⌝ }
+    ensures refusal { λ r. ⌜ refusalOf r ≡ refusedAt (locateFault mode width centre hertz) 0 ⌝ }
+{
+    // Tone 0 is one of every mode.
+    let number = fault(mode, width, centre, 0);
+    if number != NONE {
+        return Located::Refused(Refusal::at(number, 0));
+    }
+    if !is_finite(hertz) {
+        return Located::NotFinite;
+    }
+    let band = band_of(mode, width, centre);
+    if !band.holds(mode, hertz) {
+        return Located::OutsideBand;
+    }
+    let tone = band.owner(mode, hertz);
+    Located::Heard(tone, hertz - band.hertz(tone))
+}
+
+// Neither an infinity nor a NaN.
+fn is_finite(x: f64) -> bool
+    ensures { λ r. ⌜ r ≡ finite x ⌝ }
+{
+    let infinity = f64::from_bits(0x7ff0_0000_0000_0000);
+    -infinity < x && x < infinity
 }
 
 // The number of the first check that fails: 1, 3, 4, 8.

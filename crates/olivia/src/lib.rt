@@ -4,6 +4,7 @@ use told::Answer;
 use told::BlockAnswer;
 use told::EnergiesAnswer;
 use told::FoundAnswer;
+use told::LocatedAnswer;
 ghost use mathlib.Core.Path.{_≡_};
 ghost use lib.ListN.{length};
 ghost use Rattle.block_encoder.specs.Encoding.{encodeBlock, encodedInto};
@@ -12,9 +13,10 @@ ghost use Rattle.message_encoder.specs.Blocks.{longest};
 ghost use Rattle.message_encoder.specs.Encoding.{encodeMessage, messageEncodedInto};
 ghost use Rattle.message_decoder.specs.Decoding.{decodeMessage, messageDecodedInto};
 ghost use Rattle.band.specs.Frequencies.{frequencyOf};
+ghost use Rattle.band.specs.Locating.{locatedOf};
 ghost use Rattle.finder.specs.Finding.{findBlock, foundInto};
 ghost use Rattle.energy.specs.Energies.{blockEnergies, weightedEnergies};
-ghost use Rattle.told.specs.Told.{encodedTold, decodedTold, blockTold, foundTold, energiesTold};
+ghost use Rattle.told.specs.Told.{encodedTold, decodedTold, blockTold, foundTold, energiesTold, locatedTold};
 ghost use Rattle.olivia.specs.Told.{lookedAnswer, lookedTold, hertzTold};
 ghost use Rattle.olivia.specs.Tried.{TriedForC};
 ghost use Rattle.olivia.specs.WeightedTried.{WeightedTriedForC};
@@ -171,6 +173,13 @@ pub extern "C" fn olivia_frequency(mode: u32, width: u32, centre: u32, tone: u16
             }
         }
     }
+}
+
+#[no_mangle]
+pub extern "C" fn olivia_locate(mode: u32, width: u32, centre: u32, hertz: f64) -> LocatedAnswer
+    ensures { λ r. ⌜ r ≡ locatedTold (locatedOf mode width centre hertz) ⌝ }
+{
+    told::located(band::locate(mode, width, centre, hertz))
 }
 
 // The promise of trial::run, of the answers as C is told them.

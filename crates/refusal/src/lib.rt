@@ -33,6 +33,10 @@ pub const TOO_LONG: u8 = 12;
 pub const NOT_FOUND: u8 = 13;
 // The modem board: a weight is above 15.
 pub const WEIGHT: u8 = 14;
+// The bench: a measured frequency is infinite or not a number.
+pub const NOT_FINITE: u8 = 15;
+// The bench: a measured frequency lies below the band's lower edge, or at or above its upper.
+pub const OUTSIDE_BAND: u8 = 16;
 
 // Number, place and lead; the lead is 0 but for UNCLEAR.
 pub struct Refusal {

@@ -50,7 +50,7 @@ zero-exponent (pos zero) h = refl
 zero-exponent (pos (suc a)) h = absurd (omega (arith, doubled 1 a))
 zero-exponent (negsuc a) h = absurd (omega (arith, doubled 1 a))
 
-zero-fits : (f : Format) (s : Bool) (e : ℤ) → T (fits f (fin s zero e)) → e ≡ pos 0
+pub zero-fits : (f : Format) (s : Bool) (e : ℤ) → T (fits f (fin s zero e)) → e ≡ pos 0
 unfolding fits
 zero-fits f s e t = zero-exponent e (eqb→eq (up e * down e) 1 t)
 

@@ -2,9 +2,9 @@
 use mathlib.Core.Path.{_≡_, refl, sym, ap, ap₂, _∙_, subst}
 use mathlib.Core.Bool.{true, false, true≢false}
 use Prim.Native.Nat.{ℕ, _+_, _-_, _*_, _<_, _≤_}
-use native.Mathlib.Nat.{mul-comm, mul-assoc, mul-right-comm, mul-mul-mul-comm, mul-sub, add-mul, mul-pos, mul-le-mul-right, eq-of-mul-eq-mul-right}
+use native.Mathlib.Nat.{mul-comm, mul-assoc, mul-right-comm, mul-mul-mul-comm, mul-sub, add-mul, mul-pos, mul-le-mul-right, mul-lt-mul-of-pos-right, not-le-of-lt, lt-of-not-le, eq-of-mul-eq-mul-right}
 use native.Mathlib.Omega.{arith}
-use borrow.Author.Tests.{le-ltb, ne-eqb}
+use borrow.Author.Tests.{lt-ltb, le-ltb, ne-eqb}
 use lib.IntN.{ℤ}
 use lib.Ieee.{Float, nan, inf, fin, Format, up, down, round, neg, sum, add, sub, mul, div}
 use lib.Ieee.Exact.{HasValue}
@@ -21,7 +21,7 @@ cross X Y p q a c C h k =
     eq-of-mul-eq-mul-right c C (X * q) (Y * p)
     (mul-right-comm X q c ∙ ap (λ (z : ℕ). z * q) h ∙ mul-right-comm a p q ∙ ap (λ (z : ℕ). z * p) (sym k) ∙ mul-right-comm Y c p)
 
-sub-mul : (a b n : ℕ) → (a - b) * n ≡ a * n - b * n
+pub sub-mul : (a b n : ℕ) → (a - b) * n ≡ a * n - b * n
 sub-mul a b n = mul-comm (a - b) n ∙ mul-sub n a b ∙ ap₂ (λ (x y : ℕ). x - y) (mul-comm n a) (mul-comm n b)
 
 module _ (X Y p q a b c : ℕ) (h : X * c ≡ a * p) (k : Y * c ≡ b * q) where
@@ -50,7 +50,7 @@ module _ (X Y p q a b c d : ℕ) (h : X * c ≡ a * p) (k : Y * d ≡ b * q) whe
 
 -- ---- a float that is a / c is one of a finite significand and no sign
 
-of-value : (P : Float → Type 0) (x : Float) (a c : ℕ) → HasValue x false a c → ((m : ℕ) (e : ℤ) → m * up e * c ≡ a * down e → P (fin false m e)) → P x
+pub of-value : (P : Float → Type 0) (x : Float) (a c : ℕ) → HasValue x false a c → ((m : ℕ) (e : ℤ) → m * up e * c ≡ a * down e → P (fin false m e)) → P x
 of-value P nan a c h g = absurd h
 of-value P (inf s) a c h g = absurd h
 of-value P (fin true m e) a c h g = absurd (true≢false (h .0))
@@ -59,7 +59,7 @@ of-value P (fin false m e) a c h g = g m e (h .1)
 pub same-value : (x : Float) (a c a′ c′ : ℕ) → 0 < c → a′ * c ≡ a * c′ → HasValue x false a c → HasValue x false a′ c′
 same-value x a c a′ c′ C e h = of-value (λ (x : Float). HasValue x false a′ c′) x a c h (λ m g k. (refl, cross (m * up g) a′ (down g) c′ a c C k e))
 
-of-values : (P : Float → Float → Type 0) (x y : Float) (a b c d : ℕ) → HasValue x false a c → HasValue y false b d
+pub of-values : (P : Float → Float → Type 0) (x y : Float) (a b c d : ℕ) → HasValue x false a c → HasValue y false b d
     → ((m : ℕ) (e : ℤ) (n : ℕ) (g : ℤ) → m * up e * c ≡ a * down e → n * up g * d ≡ b * down g → P (fin false m e) (fin false n g)) → P x y
 of-values P x y a b c d h k f =
     of-value (λ (x : Float). P x y) x a c h (λ m e h. of-value (λ (y : Float). P (fin false m e) y) y b d k (λ n g k. f m e n g h k))
@@ -79,6 +79,16 @@ module _ (f : Format) (x y : Float) (a b c : ℕ) (C : 0 < c) (h : HasValue x fa
       rw (le-ltb (m * up e * down g) (n * up g * down e) less)
       (round-same f false (m * up e * down g - n * up g * down e) (down e * down g) (a - b) c (mul-pos (down-pos e) (down-pos g)) C
       (difference-over (m * up e) (n * up g) (down e) (down g) a b c h k)))
+
+  pub difference-turned : a < b → sub f x y ≡ round f true (b - a) c
+  unfolding sub add neg sum
+  difference-turned l = of-values (λ x y. sub f x y ≡ round f true (b - a) c) x y a b c c h k (λ m e n g h k.
+      let less : m * up e * down g < n * up g * down e =
+      lt-of-not-le (λ u. not-le-of-lt (mul-lt-mul-of-pos-right l C)
+      (transfer b a c c (n * up g) (m * up e) (down g) (down e) (down-pos g) (down-pos e) (sym k) (sym h) u)) in
+      rw (lt-ltb (m * up e * down g) (n * up g * down e) less)
+      (round-same f true (n * up g * down e - m * up e * down g) (down e * down g) (b - a) c (mul-pos (down-pos e) (down-pos g)) C
+      (difference-over (n * up g) (m * up e) (down g) (down e) b a c k h ∙ ap (λ (z : ℕ). (b - a) * z) (mul-comm (down g) (down e)))))
 
 module _ (f : Format) (x y : Float) (a b c d : ℕ) (C : 0 < c) (D : 0 < d) (h : HasValue x false a c) (k : HasValue y false b d) where
   pub product-rounded : mul f x y ≡ round f false (a * b) (c * d)

@@ -56,7 +56,7 @@ only-scaled k x h p v = one-value binary64 x (scaled k) false k 512 (lit< tt) p 
 pub exact-law : Exact
 exact-law = record { held = scaled-fits; value = scaled-value; only = only-scaled }
 
-rounded : (k : ℕ) → k < 2 ^ 53 → round binary64 false k 512 ≡ scaled k
+pub rounded : (k : ℕ) → k < 2 ^ 53 → round binary64 false k 512 ≡ scaled k
 rounded k h =
     only-scaled k (round binary64 false k 512) h (round-fits binary64 false k 512)
     (round-exact binary64 false k 512 k 1065 (lit< tt) h (in-range k h) (sym (mul-assoc k (2 ^ 1065) 512)))

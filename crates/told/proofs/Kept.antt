@@ -15,7 +15,10 @@ use Rattle.finder.specs.declared.BlockFound.{BlockFound}
 use Rattle.energy.specs.declared.Totalled.{Totalled}
 use Rattle.energy.specs.declared.Totalled.the-variants as totalled
 use Rattle.energy.specs.declared.Energies.{Energies}
-use Rattle.told.specs.Capped.{placeCapped, sentCapped, heardCapped, blockCapped, findingCapped, foundCapped, totalledCapped, energiesCapped}
+use Rattle.band.specs.Locating.{refusalOf}
+use Rattle.band.specs.declared.Located.{Located}
+use Rattle.band.specs.declared.Located.the-variants as located
+use Rattle.told.specs.Capped.{placeCapped, sentCapped, heardCapped, blockCapped, findingCapped, foundCapped, totalledCapped, energiesCapped, locatedCapped}
 
 -- the count or the place that an answer carries
 abbrev pub carriedBy : Encoded → ℕ
@@ -65,3 +68,9 @@ totalled-kept (totalled.Refused r) h = ap totalled.Refused (place-kept r h)
 
 pub energies-kept : (e : Energies) → totalledCarries (e .answer) < 2 ^ 32 → energiesCapped e ≡ e
 energies-kept e h = let a = totalled-kept (e .answer) h in λ i. record { answer = a i; sums = e .sums }
+
+pub located-kept : (l : Located) → refusalOf l .place ≡ 0 → locatedCapped l ≡ l
+located-kept (located.Heard n off) h = refl
+located-kept located.NotFinite h = refl
+located-kept located.OutsideBand h = refl
+located-kept (located.Refused r) h = ap located.Refused (place-kept r (omega (arith, h)))

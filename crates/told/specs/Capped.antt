@@ -12,6 +12,8 @@ use Rattle.finder.specs.declared.BlockFound.{BlockFound}
 use Rattle.energy.specs.declared.Totalled.{Totalled}
 use Rattle.energy.specs.declared.Totalled.the-variants as totalled
 use Rattle.energy.specs.declared.Energies.{Energies}
+use Rattle.band.specs.declared.Located.{Located}
+use Rattle.band.specs.declared.Located.the-variants as located
 
 -- a refusal with its place capped
 abbrev pub placeCapped : Refusal → Refusal
@@ -48,3 +50,10 @@ totalledCapped (totalled.Refused r) = totalled.Refused (placeCapped r)
 -- energies with their answer capped
 abbrev pub energiesCapped : Energies → Energies
 energiesCapped e = record { answer = totalledCapped (e .answer); sums = e .sums }
+
+-- what locating answers, with its place capped
+abbrev pub locatedCapped : Located → Located
+locatedCapped (located.Heard n off) = located.Heard n off
+locatedCapped located.NotFinite = located.NotFinite
+locatedCapped located.OutsideBand = located.OutsideBand
+locatedCapped (located.Refused r) = located.Refused (placeCapped r)

@@ -18,11 +18,16 @@ use Rattle.finder.specs.declared.BlockFound.{BlockFound}
 use Rattle.energy.specs.declared.Totalled.{Totalled}
 use Rattle.energy.specs.declared.Totalled.the-variants as totalled
 use Rattle.energy.specs.declared.Energies.{Energies}
+use Rattle.scaled.specs.Exact.{scaled}
+use Rattle.band.specs.Locating.{refusalOf}
+use Rattle.band.specs.declared.Located.{Located}
+use Rattle.band.specs.declared.Located.the-variants as located
 use Rattle.told.specs.declared.Answer.{Answer}
 use Rattle.told.specs.declared.CharacterAnswer.{CharacterAnswer}
 use Rattle.told.specs.declared.BlockAnswer.{BlockAnswer}
 use Rattle.told.specs.declared.FoundAnswer.{FoundAnswer}
 use Rattle.told.specs.declared.EnergiesAnswer.{EnergiesAnswer}
+use Rattle.told.specs.declared.LocatedAnswer.{LocatedAnswer}
 
 -- number 0: accepted, with the count of tones or codes written
 abbrev pub acceptedTold : ℕ → Answer
@@ -71,3 +76,14 @@ sumsTold sums (totalled.Refused r) = record { number = r .number; place = r .pla
 
 abbrev pub energiesTold : Energies → EnergiesAnswer
 energiesTold e = sumsTold (e .sums) (e .answer)
+
+-- a refusal has neither tone nor distance: zeros stand there
+abbrev pub nowhereTold : Refusal → LocatedAnswer
+nowhereTold r = record { number = r .number; place = r .place; tone = 0; «hertz_off» = scaled 0 }
+
+-- number 0: the tone, and its distance
+abbrev pub locatedTold : Located → LocatedAnswer
+locatedTold (located.Heard n off) = record { number = 0; place = 0; tone = n; «hertz_off» = off }
+locatedTold located.NotFinite = nowhereTold (refusalOf located.NotFinite)
+locatedTold located.OutsideBand = nowhereTold (refusalOf located.OutsideBand)
+locatedTold (located.Refused r) = nowhereTold (refusalOf (located.Refused r))

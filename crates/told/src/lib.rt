@@ -1,4 +1,5 @@
 // What C is told of each answer. A count or a place that 32 bits do not hold is capped.
+use band::Located;
 use block_decoder::BlockDecoded;
 use block_decoder::Decoded;
 use block_encoder::Encoded;
@@ -11,8 +12,8 @@ use finder::Finding;
 use refusal::Refusal;
 ghost use mathlib.Core.Path.{_≡_};
 ghost use Rattle.lists.specs.Caps.{capped};
-ghost use Rattle.told.specs.Told.{acceptedTold, refusalTold, encodedTold, decodedTold, characterTold, charactersTold, blockTold, foundTold, energiesTold};
-ghost use Rattle.told.specs.Capped.{placeCapped, sentCapped, heardCapped, blockCapped, foundCapped, energiesCapped};
+ghost use Rattle.told.specs.Told.{acceptedTold, refusalTold, encodedTold, decodedTold, characterTold, charactersTold, blockTold, foundTold, energiesTold, nowhereTold, locatedTold};
+ghost use Rattle.told.specs.Capped.{placeCapped, sentCapped, heardCapped, blockCapped, foundCapped, energiesCapped, locatedCapped};
 
 // number 0: accepted, and count is the tones or codes written. Else the refusal, and count is 0.
 #[repr(C)]
@@ -56,6 +57,15 @@ pub struct EnergiesAnswer {
     pub place: u32,
     pub total: u32,
     pub sums: [u32; 8],
+}
+
+// number 0: the tone, and how many Hz the measurement is off it. Else the refusal, and zeros.
+#[repr(C)]
+pub struct LocatedAnswer {
+    pub number: u32,
+    pub place: u32,
+    pub tone: u32,
+    pub hertz_off: f64,
 }
 
 pub fn encoded(answer: Encoded) -> Answer
@@ -129,6 +139,34 @@ pub fn energies(energies: Energies) -> EnergiesAnswer
                 sums,
             }
         }
+    }
+}
+
+pub fn located(located: Located) -> LocatedAnswer
+    ensures { λ r. ⌜ r ≡ locatedTold (locatedCapped located) ⌝ }
+{
+    match located {
+        Located::Heard(tone, hertz_off) => LocatedAnswer {
+            number: 0,
+            place: 0,
+            tone: tone as u32,
+            hertz_off,
+        },
+        Located::NotFinite => nowhere(Refusal::at(refusal::NOT_FINITE, 0)),
+        Located::OutsideBand => nowhere(Refusal::at(refusal::OUTSIDE_BAND, 0)),
+        Located::Refused(refusal) => nowhere(refusal),
+    }
+}
+
+fn nowhere(refusal: Refusal) -> LocatedAnswer
+    ensures { λ r. ⌜ r ≡ nowhereTold (placeCapped refusal) ⌝ }
+{
+    let told = refused(refusal);
+    LocatedAnswer {
+        number: told.number,
+        place: told.place,
+        tone: 0,
+        hertz_off: 0.0,
     }
 }
 
