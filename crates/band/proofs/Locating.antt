@@ -2,21 +2,20 @@
 use mathlib.Core.Path.{_≡_, refl, sym, ap, _∙_}
 use mathlib.Core.Bool.{Bool, true, false, cond, not}
 use mathlib.Core.Logic.{_≢_}
-use Prim.Native.Nat.{ℕ, suc, _%_, _^_, _<_, _≤_}
-use native.Mathlib.Nat.{lt-of-lt-of-le}
+use Prim.Native.Nat.{ℕ, suc, _%_, _^_, _≤_}
 use native.Mathlib.Omega.{arith}
 use borrow.Author.Tests.{eq-eqb, ne-eqb}
-use lib.Dec.{eqb, lit<}
+use lib.Dec.{eqb}
 use lib.Ieee.{Float, le}
 use lib.Ieee.Scale.{finite}
-use lib.Pow.{pow-pos, pow-mono}
+use lib.Pow.{pow-mono}
 use Rattle.refusal.specs.Refused.{refusedAt}
 use Rattle.refusal.proofs.Limits.{mode-tones}
 use Rattle.scaled_order.specs.Order.{atLeast}
 use Rattle.scaled_order.proofs.Comparing.{compared}
 use Rattle.band.specs.Limits.{fault}
 use Rattle.band.specs.Frequencies.{edge512, bandOf}
-use Rattle.band.specs.Locating.{toneEdge512, ownerOf, upper512, inBand, heardAs, locatedOf, refusalOf, locateFault}
+use Rattle.band.specs.Locating.{toneEdge512, ownerOf, inBand, heardAs, locatedOf, refusalOf, locateFault}
 use Rattle.band.specs.Internal.{toneEdgeIn, holdsIn, Between, OwnerIn}
 use Rattle.band.specs.declared.Located.the-variants as located
 use Rattle.band.proofs.Settings.{passed, within}

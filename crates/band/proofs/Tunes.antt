@@ -17,12 +17,12 @@ use Rattle.scaled_order.specs.Order.{atLeast}
 use Rattle.scaled_order.proofs.Comparing.{scaled-least}
 use Rattle.scaled_order.proofs.Distances.{distance-law}
 use Rattle.band.specs.Limits.{fault}
-use Rattle.band.specs.Frequencies.{edge512, spacing512, half512, tone512, hertzOf, frequencyOf}
+use Rattle.band.specs.Frequencies.{edge512, spacing512, half512, tone512, hertzOf}
 use Rattle.band.specs.Locating.{toneEdge512, owns, ownerOf, inBand, heardAs, locatedOf}
 use Rattle.band.specs.Laws.{isHeard, Tuning}
 use Rattle.band.specs.declared.Located.the-variants as located
 use Rattle.band.specs.declared.Tuned.the-variants as tuned
-use Rattle.band.proofs.Settings.{within, tone-0, tone-range, other-tone}
+use Rattle.band.proofs.Settings.{within, tone-0, tone-range}
 use Rattle.band.proofs.Formulas.{halved, spacing-high, edge-high}
 use Rattle.band.proofs.Answers.{hertz-of-frequency}
 use Rattle.band.proofs.Owners.{owns-by, owned, one-owner, owner-is, owner-owns, owned-in-band}

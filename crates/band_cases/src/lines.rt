@@ -1,6 +1,7 @@
 // A call of an entry and its line: what it is given, and the answer. A frequency is told as its whole number of 1/512 Hz and
-// as the bit pattern of the f64, which tells it apart from every other.
+// as the bit pattern of the f64, which tells it apart from every other; a measurement and its distance as the pattern alone.
 use band::Band;
+use band::Located;
 use band::Planned;
 use band::Tuned;
 use libc::STDOUT_FILENO;
@@ -44,6 +45,8 @@ fn whole_part(x: f64) -> u64 {
 fn pattern(x: f64) {
     if x == x {
         io::print_hex(STDOUT_FILENO, f64::to_bits(x), 16);
+    } else {
+        text(b"NaN");
     }
 }
 
@@ -73,6 +76,24 @@ pub fn frequency(mode: u32, width: u32, centre: u32, tone: u16) {
     match tuned {
         Tuned::Hertz(x) => hertz(b": ", x),
         Tuned::Refused(refusal) => refused(refusal),
+    }
+    line_end();
+}
+
+pub fn locate(mode: u32, width: u32, centre: u32, hertz: f64) {
+    settings(mode, width, centre);
+    text(b" measured ");
+    pattern(hertz);
+    let located = band::locate(mode, width, centre, hertz);
+    match located {
+        Located::Heard(tone, off) => {
+            field(b": tone ", tone as u64);
+            text(b" off ");
+            pattern(off);
+        }
+        Located::NotFinite => text(b": not finite"),
+        Located::OutsideBand => text(b": outside the band"),
+        Located::Refused(refusal) => refused(refusal),
     }
     line_end();
 }

@@ -19,6 +19,12 @@ float-to-bits-print-hex c = no-nan _ (c .if1 .taken)
 print-hex-requires : tie.Need-print-hex-requires
 print-hex-requires c κs = search needs
 
+slice-aggregate-text : tie.Need-slice-aggregate-text
+slice-aggregate-text c = search needs
+
+text-requires : tie.Need-text-requires
+text-requires c κs = search needs
+
 returns : tie.Need-returns
 returns c = search needs
 
@@ -26,4 +32,12 @@ returns-2 : tie.Need-returns-2
 returns-2 c = search needs
 
 pub pattern-spec : {M : Type 1} → statement M
-pattern-spec = tie.close (tie.spec float-to-bits-print-hex print-hex-requires returns returns-2)
+pattern-spec =
+    tie.close
+    (tie.spec
+    float-to-bits-print-hex
+    print-hex-requires
+    slice-aggregate-text
+    text-requires
+    returns
+    returns-2)
