@@ -137,7 +137,7 @@ pub fn locate(mode: u32, width: u32, centre: u32, hertz: f64) -> Located
 fn is_finite(x: f64) -> bool
     ensures { λ r. ⌜ r ≡ finite x ⌝ }
 {
-    let infinity = f64::from_bits(0x7ff0_0000_0000_0000);
+    let infinity = 1.0 / 0.0;
     -infinity < x && x < infinity
 }
 

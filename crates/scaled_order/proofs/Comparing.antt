@@ -88,21 +88,33 @@ fraction-least (fin true m e) n d k h = level-zero (n * up d * down e) (m * up e
 pub compared : (k : ℕ) (x : Float) → le (scaled k) x ≡ atLeast k x
 compared k x = of-value (λ (y : Float). le y x ≡ atLeast k x) (scaled k) k 512 (scaled-value k) (λ n d h. fraction-least x n d k h)
 
-value-least : (k a c : ℕ) (x : Float) → 0 < c → HasValue x false a c → atLeast k x ≡ leb (k * c) (a * 512)
+plus-least : (k a c : ℕ) (x : Float) → 0 < c → HasValue x false a c → atLeast k x ≡ leb (k * c) (a * 512)
 unfolding atLeast
-value-least k a c x C h = of-value (λ (x : Float). atLeast k x ≡ leb (k * c) (a * 512)) x a c h (λ m e h.
+plus-least k a c x C h = of-value (λ (x : Float). atLeast k x ≡ leb (k * c) (a * 512)) x a c h (λ m e h.
     same-order (k * down e) (m * up e * 512) (k * c) (a * 512) c (down e) C (down-pos e)
     (mul-right-comm k (down e) c)
     (mul-right-comm (m * up e) 512 c ∙ ap (λ (z : ℕ). z * 512) h ∙ mul-right-comm a (down e) 512))
 
+minus-least : (k a c : ℕ) (x : Float) → 0 < c → HasValue x true a c → atLeast k x ≡ eqb k 0 && eqb a 0
+unfolding atLeast
+minus-least k a c nan C h = absurd h
+minus-least k a c (inf s) C h = absurd h
+minus-least k a c (fin false m e) C h = absurd (true≢false (sym (h .0)))
+minus-least k a c (fin true m e) C h =
+    ap (λ (t : Bool). eqb k 0 && t)
+    (sym (zero-product m (up e) (up-pos e))
+    ∙ sym (zero-product (m * up e) c C)
+    ∙ ap (λ (z : ℕ). eqb z 0) (h .1)
+    ∙ zero-product a (down e) (down-pos e))
+
 pub order-law : Order
-order-law = record { fraction = value-least; compared = compared }
+order-law = record { plus = plus-least; minus = minus-least; compared = compared }
 
 -- ---- the numbers k / 512 among themselves
 
 pub scaled-least : (j k : ℕ) → atLeast j (scaled k) ≡ leb j k
 scaled-least j k =
-    value-least j k 512 (scaled k) (lit< tt) (scaled-value k)
+    plus-least j k 512 (scaled k) (lit< tt) (scaled-value k)
     ∙ same-order (j * 512) (k * 512) j k 1 512 (lit< tt) (lit< tt) (mul-one (j * 512)) (mul-one (k * 512))
 
 -- what is at least k / 512 is at least every smaller number

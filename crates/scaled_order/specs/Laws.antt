@@ -1,17 +1,19 @@
 -- The laws of any f64 beside the numbers k / 512. Each is the promise of the function of the same name in src/laws.rt.
--- `HasValue x false a c` says that x is finite, has no minus sign, and is a / c.
+-- `HasValue x s a c` says that x is finite, has a minus sign if s is true, and is a / c or −a / c.
 use mathlib.Core.Path.{_≡_}
-use mathlib.Core.Bool.{true, false}
+use mathlib.Core.Bool.{true, false, _&&_}
 use Prim.Native.Nat.{ℕ, _+_, _*_, _^_, _<_}
-use lib.Dec.{T, leb}
+use lib.Dec.{T, leb, eqb}
 use lib.Ieee.{Float, binary64, fits, neg, sub, lt, le}
 use lib.Ieee.Exact.{HasValue}
 use Rattle.scaled.specs.Exact.{scaled}
 use Rattle.scaled_order.specs.Order.{atLeast}
 
--- The order is that of the fractions, and one comparison in f64 decides it, of NaN and the infinities too.
+-- The order is that of the fractions, below which nothing with a minus sign but −0.0 is 0 or more; and one comparison in f64 decides it, of NaN
+-- and the infinities too.
 pub record Order : Type 0 where
-  pub fraction : (k a c : ℕ) (x : Float) → 0 < c → HasValue x false a c → atLeast k x ≡ leb (k * c) (a * 512)
+  pub plus : (k a c : ℕ) (x : Float) → 0 < c → HasValue x false a c → atLeast k x ≡ leb (k * c) (a * 512)
+  pub minus : (k a c : ℕ) (x : Float) → 0 < c → HasValue x true a c → atLeast k x ≡ eqb k 0 && eqb a 0
   pub compared : (k : ℕ) (x : Float) → le (scaled k) x ≡ atLeast k x
 
 -- An f64 from s / 512 up to, but without, (s + 2h) / 512, less the middle of that stretch: at least −h / 512 and below h / 512, after the

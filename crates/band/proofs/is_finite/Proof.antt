@@ -1,6 +1,6 @@
 use mathlib.Core.Path.{_≡_, refl, sym}
 use mathlib.Core.Bool.{true, false}
-use lib.Ieee.{Float, nan, inf, fin, ofBits, nanBits, neg, lt}
+use lib.Ieee.{Float, nan, inf, fin, ofBits, div, neg, lt}
 use lib.Ieee.Scale.{finite}
 use Rattle.band.proofs.is_finite.Statement.{statement}
 use Rattle.band.proofs.is_finite.Tie as tie
@@ -19,17 +19,13 @@ not-above (inf true) h = refl
 not-above (inf false) h = h
 not-above (fin s m e) h = refl
 
-float-from-bits-infinity : tie.Need-float-from-bits-infinity
-unfolding nanBits
-float-from-bits-infinity c = tt
-
 returns : tie.Need-returns
-unfolding ofBits neg
+unfolding ofBits div neg
 returns c = above (c .before .args .x) (c .if1 .taken)
 
 returns-2 : tie.Need-returns-2
-unfolding ofBits neg
+unfolding ofBits div neg
 returns-2 c = not-above (c .before .args .x) (c .if1 .left)
 
 pub is-finite-spec : {M : Type 1} → statement M
-is-finite-spec = tie.close (tie.spec float-from-bits-infinity returns returns-2)
+is-finite-spec = tie.close (tie.spec returns returns-2)
