@@ -55,6 +55,16 @@ pub struct Hertz {
     pub hertz: f64,
 }
 
+/// Number 0: `tone` owns the measurement, and `hertz_off` is how far above that tone's frequency this is.
+#[repr(C)]
+#[derive(Clone, Copy, Debug, Default, PartialEq)]
+pub struct Located {
+    pub number: u32,
+    pub place: u32,
+    pub tone: u32,
+    pub hertz_off: f64,
+}
+
 #[repr(C)]
 #[derive(Clone, Copy, Debug, Default, PartialEq, Eq)]
 pub struct Trial {
@@ -85,7 +95,7 @@ pub struct Energies {
 }
 
 mod c {
-    use super::{Answer, Block, Energies, Found, Hertz, Looked, Trial, WeightedTrial};
+    use super::{Answer, Block, Energies, Found, Hertz, Located, Looked, Trial, WeightedTrial};
 
     extern "C" {
         pub fn olivia_encode_block(
@@ -128,6 +138,7 @@ mod c {
             room: usize,
         ) -> Found;
         pub fn olivia_frequency(mode: u32, width: u32, centre: u32, tone: u16) -> Hertz;
+        pub fn olivia_locate(mode: u32, width: u32, centre: u32, hertz: f64) -> Located;
         pub fn olivia_trial_run(
             mode: u32,
             least_lead: u32,
@@ -229,6 +240,11 @@ pub fn find_block(mode: u32, least_lead: u32, run: &[u16], codes: &mut [u8]) -> 
 
 pub fn frequency(mode: u32, width: u32, centre: u32, tone: u16) -> Hertz {
     unsafe { c::olivia_frequency(mode, width, centre, tone) }
+}
+
+/// The tone that owns the measured frequency `hertz`, and how far off it is.
+pub fn locate(mode: u32, width: u32, centre: u32, hertz: f64) -> Located {
+    unsafe { c::olivia_locate(mode, width, centre, hertz) }
 }
 
 /// Encodes `text` into `tones`, decodes what was written into `first`, and `heard` into `second`.

@@ -4,14 +4,14 @@
 mod groups;
 
 use groups::{cases, compare, demand3, energies, finding, listing, plain, raising, range, records};
-use groups::{sheet, vectors, weight0, weighted, weights, words, Report};
+use groups::{sheet, tuning, vectors, weight0, weighted, weights, words, Report};
 use olivia_tests::paper;
 use std::io::{self, Read, Write};
 use std::process::ExitCode;
 
 type Group = (&'static str, fn() -> Report);
 
-const GROUPS: [Group; 16] = [
+const GROUPS: [Group; 17] = [
     ("vectors", vectors::run),
     ("words", words::run),
     ("sheet", sheet::run),
@@ -21,6 +21,7 @@ const GROUPS: [Group; 16] = [
     ("finding", finding::run),
     ("energies", energies::run),
     ("raising", raising::run),
+    ("tuning", tuning::run),
     ("cases", cases::run),
     ("compare", compare::run),
     ("plain", plain::run),

@@ -1,6 +1,6 @@
 //! Calls the library so many times on one input, for a tool that counts instructions: `count WORK MODE TIMES`, where WORK is
-//! `encode`, `decode`, `weighted`, `message`, `find`, `find-long`, `energy`, `weighted-energy`, `bad-first`, `bad-last`, `check` or
-//! `check-long`.
+//! `encode`, `decode`, `weighted`, `message`, `find`, `find-long`, `energy`, `weighted-energy`, `locate`, `locate-outside`, `frequency`,
+//! `bad-first`, `bad-last`, `check` or `check-long`. Measured frequencies are taken in turn.
 
 use olivia_tests::library;
 use olivia_tests::random::Random;
@@ -19,6 +19,11 @@ const SEARCHED: usize = 1024;
 const SEARCH_LEAD: u32 = 32;
 const SEED: u64 = 1;
 
+/// A band from 1000 to 2000 Hz, and how many frequencies are measured.
+const WIDTH: u32 = 1000;
+const CENTRE: u32 = 1500;
+const MEASUREMENTS: usize = 1000;
+
 fn main() -> ExitCode {
     let words: Vec<String> = std::env::args().skip(1).collect();
     let number = |place: usize| words.get(place).and_then(|word| word.parse().ok());
@@ -34,6 +39,9 @@ fn main() -> ExitCode {
         "find-long" => find(mode, times, LONG_RUN),
         "energy" => energy(mode, times),
         "weighted-energy" => weighted_energy(mode, times),
+        "locate" => locate(mode, times, &[1000.0], 0),
+        "locate-outside" => locate(mode, times, &[0.0, 2000.0], 16),
+        "frequency" => frequency(mode, times),
         work => return look(work, mode, times),
     }
     ExitCode::SUCCESS
@@ -53,8 +61,8 @@ fn look(work: &str, mode: u32, times: u32) -> ExitCode {
 
 fn usage() -> ExitCode {
     eprintln!(
-        "usage: count encode|decode|weighted|message|find|find-long|energy|weighted-energy|\
-         bad-first|bad-last|check|check-long MODE TIMES"
+        "usage: count encode|decode|weighted|message|find|find-long|energy|weighted-energy|locate|\
+         locate-outside|frequency|bad-first|bad-last|check|check-long MODE TIMES"
     );
     ExitCode::FAILURE
 }
@@ -154,6 +162,29 @@ fn weighted_energy(mode: u32, times: u32) {
     for _ in 0..times {
         let energies = library::weighted_energy(mode, black_box(&tones), black_box(&weights));
         assert_eq!(black_box(energies).total, 64 * 4 * 1240);
+    }
+}
+
+/// Frequencies from one of these on, and less than the band's width above it; each is answered with this number.
+fn locate(mode: u32, times: u32, from: &[f64], number: u32) {
+    let mut random = Random::new(SEED);
+    let mut measure = || {
+        let part = random.below(1 << 30) as f64 / f64::from(1 << 30);
+        random.pick(from) + f64::from(WIDTH) * part
+    };
+    let measured: Vec<f64> = (0..MEASUREMENTS).map(|_| measure()).collect();
+    for &hertz in measured.iter().cycle().take(times as usize) {
+        let located = library::locate(mode, WIDTH, CENTRE, black_box(hertz));
+        assert_eq!(black_box(located).number, number);
+    }
+}
+
+/// That of the mode's last tone.
+fn frequency(mode: u32, times: u32) {
+    let tone = (1 << mode) - 1;
+    for _ in 0..times {
+        let told = library::frequency(mode, WIDTH, CENTRE, black_box(tone));
+        assert_eq!(black_box(told).number, 0);
     }
 }
 

@@ -16,6 +16,7 @@ mod receivers;
 pub mod records;
 pub mod sheet;
 mod tally;
+pub mod tuning;
 pub mod vectors;
 mod weighing;
 pub mod weight0;

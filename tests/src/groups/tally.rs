@@ -1,4 +1,4 @@
-//! How often each kind of block, message or run was met.
+//! How often each kind of block, message, run or measurement was met.
 
 /// Each kind is met at least so often.
 const OFTEN: usize = 100;

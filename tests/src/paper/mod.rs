@@ -1,5 +1,5 @@
-//! Document 01 ("Olivia text link: from characters to tones and back"), with orders 1, 2, 3, 5 and 13 of document 02, written
-//! down a second time, to hold the library and the listing program against.
+//! Document 01 ("Olivia text link: from characters to tones and back"), with orders 1 to 5 and 13 of document 02, written down
+//! a second time, to hold the library and the listing program against.
 //!
 //! Each function quotes the rule that it is. Nothing here is fast or shared with the library: a correlation is a sum over 64
 //! places, and the symbol of a tone is searched for. A function hands back what an entry has to write; `room` is the length of the
@@ -7,6 +7,7 @@
 
 mod demand;
 mod energies;
+mod exact;
 mod finding;
 mod frequencies;
 mod hearing;
@@ -15,6 +16,7 @@ mod messages;
 mod range;
 mod refusals;
 mod sending;
+mod tuning;
 mod weights;
 
 pub use demand::{
@@ -22,7 +24,7 @@ pub use demand::{
 };
 pub use energies::{energy, weighted_energy, Energies};
 pub use finding::{find_block, Finding, LONGEST_RUN};
-pub use frequencies::frequency;
+pub use frequencies::{frequency, WIDTHS};
 pub use hearing::{correlations, decode_block, symbol_of, Character, Heard, PLAIN};
 pub use listing::listed;
 pub use messages::{decode_message, encode_message};
@@ -32,6 +34,7 @@ pub use sending::{
     block_symbols, block_tones, code_bit, encode_block, key_bit, place_in_symbol, reference_word,
     tone_of,
 };
+pub use tuning::{locate, Located};
 pub use weights::decode_weighted;
 
 /// "A block is 64 symbols."

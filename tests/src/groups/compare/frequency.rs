@@ -4,10 +4,8 @@ use super::super::expect_equal;
 use super::draw::{self, Wrong};
 use super::Met;
 use olivia_tests::library;
-use olivia_tests::paper;
+use olivia_tests::paper::{self, WIDTHS};
 use olivia_tests::random::Random;
-
-const WIDTHS: [u32; 5] = [125, 250, 500, 1000, 2000];
 
 #[derive(Debug)]
 pub struct Frequency {
@@ -57,7 +55,7 @@ impl super::Case for Frequency {
     }
 }
 
-fn wrong_width(random: &mut Random) -> u32 {
+pub fn wrong_width(random: &mut Random) -> u32 {
     match random.below(4) {
         0 => random.pick(&[
             0, 1, 62, 63, 124, 126, 251, 499, 501, 999, 1001, 1999, 2001, 4000,
@@ -69,7 +67,7 @@ fn wrong_width(random: &mut Random) -> u32 {
 }
 
 /// A centre within the limits, often on one of them, or outside.
-fn centre(random: &mut Random, width: u32, wrong: bool) -> u32 {
+pub fn centre(random: &mut Random, width: u32, wrong: bool) -> u32 {
     let least = width.div_ceil(2);
     match (wrong, random.below(4)) {
         (false, 0) => least,

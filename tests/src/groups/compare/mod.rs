@@ -4,7 +4,8 @@ pub mod block;
 pub mod draw;
 mod energy;
 mod find;
-mod frequency;
+pub mod frequency;
+mod locate;
 pub mod message;
 pub mod range;
 mod records;
@@ -80,6 +81,7 @@ pub fn run() -> Report {
     many::<find::Find>(&mut random, &mut tally, 20_000)?;
     many::<energy::Plain>(&mut random, &mut tally, 20_000)?;
     many::<energy::Weighted>(&mut random, &mut tally, 20_000)?;
+    many::<locate::Locate>(&mut random, &mut tally, 60_000)?;
     tally.expect_every_refusal()?;
     tally.expect_every_kind()?;
     Ok(tally.lines())
