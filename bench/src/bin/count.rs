@@ -1,6 +1,6 @@
 //! Calls the library so many times on one input, for a tool that counts instructions: `count WORK MODE TIMES`, where WORK is
-//! `encode`, `decode`, `weighted`, `message`, `find`, `find-long`, `energy`, `weighted-energy`, `locate`, `locate-outside`, `frequency`,
-//! `bad-first`, `bad-last`, `check` or `check-long`. Measured frequencies are taken in turn.
+//! `encode`, `decode`, `weighted`, `message`, `find`, `find-long`, `energy`, `weighted-energy`, `locate`, `locate-outside`,
+//! `frequency`, `bad-first`, `bad-last`, `check` or `check-long`. What is located is 1,000 inputs in turn.
 
 use olivia_tests::library;
 use olivia_tests::random::Random;
