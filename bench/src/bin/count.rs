@@ -39,9 +39,6 @@ fn main() -> ExitCode {
         "find-long" => find(mode, times, LONG_RUN),
         "energy" => energy(mode, times),
         "weighted-energy" => weighted_energy(mode, times),
-        "locate" => locate(mode, times, &[1000.0], 0),
-        "locate-outside" => locate(mode, times, &[0.0, 2000.0], 16),
-        "frequency" => frequency(mode, times),
         work => return look(work, mode, times),
     }
     ExitCode::SUCCESS
@@ -54,6 +51,17 @@ fn look(work: &str, mode: u32, times: u32) -> ExitCode {
         "bad-last" => refused(mode, times, |count| count - 1),
         "check" => check(mode, times, SHORT_RUN),
         "check-long" => check(mode, times, LONG_RUN),
+        _ => return tune(work, mode, times),
+    }
+    ExitCode::SUCCESS
+}
+
+/// The works of a band.
+fn tune(work: &str, mode: u32, times: u32) -> ExitCode {
+    match work {
+        "locate" => locate(mode, times, &[1000.0], 0),
+        "locate-outside" => locate(mode, times, &[0.0, 2000.0], 16),
+        "frequency" => frequency(mode, times),
         _ => return usage(),
     }
     ExitCode::SUCCESS
