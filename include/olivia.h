@@ -198,10 +198,10 @@ olivia_hertz olivia_frequency(uint32_t mode, uint32_t width, uint32_t centre, ui
 /* The tone that a measured frequency hertz belongs to, and how far it is off that tone's frequency. The band reaches
  * from centre - width / 2 up to, but without, centre + width / 2. Tone n owns the stretch from the lower edge plus n
  * spacings up to, but without, the next such edge. hertz may be any double and is compared with these edges by its
- * own value, to which nothing is rounded; -0.0 is 0. Checks 1, 3, 4, 15, 16. Accepted exactly if hertz is a number in
- * the band: tone is the one that owns it, and hertz_off is hertz - f, one subtraction of doubles, for the frequency f
- * that olivia_frequency gives of that tone. It is at least minus half a spacing, and below half a spacing. For f itself
- * it is 0.0. */
+ * own value, with nothing rounded; -0.0 is 0. Checks 1, 3, 4, 15, 16. Accepted exactly if no setting is refused and
+ * hertz is a number in the band: tone is the one that owns it, and hertz_off is hertz - f, one subtraction of doubles,
+ * for the frequency f that olivia_frequency gives of that tone. It is at least minus half a spacing, and below half a
+ * spacing. For f itself it is 0.0. */
 olivia_located olivia_locate(uint32_t mode, uint32_t width, uint32_t centre, double hertz);
 
 /* Encodes the block text into tones, decodes the tones written into one, and decodes heard into two. Each answer

@@ -9,8 +9,7 @@ use lib.Ieee.Exact.{HasValue}
 use Rattle.scaled.specs.Exact.{scaled}
 use Rattle.scaled_order.specs.Order.{atLeast}
 
--- The order is that of the fractions, below which nothing with a minus sign but −0.0 is 0 or more; and one comparison in f64 decides it, of NaN
--- and the infinities too.
+-- The order is that of the fractions; with a minus sign only 0 is 0 or more. One comparison in f64 decides it, of NaN and the infinities too.
 pub record Order : Type 0 where
   pub plus : (k a c : ℕ) (x : Float) → 0 < c → HasValue x false a c → atLeast k x ≡ leb (k * c) (a * 512)
   pub minus : (k a c : ℕ) (x : Float) → 0 < c → HasValue x true a c → atLeast k x ≡ eqb k 0 && eqb a 0
