@@ -47,11 +47,11 @@ module _ (b : ℕ) (h : b ≤ 8) where
   unfolding spacing512
   in-tones w = mul-assoc w (2 ^ (9 - b)) (2 ^ b) ∙ ap (λ (k : ℕ). w * k) powers ∙ mul-comm w 512
 
-pub spacing-high : (b w : ℕ) → 1 ≤ b → w ≤ 2000 → spacing512 b w ≤ 512000
+spacing-high : (b w : ℕ) → 1 ≤ b → w ≤ 2000 → spacing512 b w ≤ 512000
 unfolding spacing512
 spacing-high b w h l = mul-le-mul l (pow-mono {i = 9 - b} {j = 8} (omega arith))
 
-pub edge-high : (w c : ℕ) → c ≤ 10000 → edge512 w c ≤ 5120000
+edge-high : (w c : ℕ) → c ≤ 10000 → edge512 w c ≤ 5120000
 unfolding edge512
 edge-high w c h = omega arith
 
@@ -83,14 +83,25 @@ module _ (b w c : ℕ) (e : fault b w c 0 ≡ 0) where
       ap (λ (x : Float). div binary64 x (whole (2 ^ b))) (cast-exact w (omega arith) ∙ ap scaled (sym (in-tones b (h .mode-high) w)))
       ∙ quotient-exact (spacing512 b w) b (omega arith) (omega arith)
 
-  pub hertz-exact : (n : ℕ) → n < 2 ^ 16 → hertzIn (bandOf b w c) n ≡ hertzOf b w c n
-  unfolding hertzIn bandOf hertzOf tone512
-  hertz-exact n l =
+  pub half-small : half512 b w < 2 ^ 53
+  half-small =
+      let h = limits in
+      omega (arith, halved b (h .mode-high) w, spacing-high b w (h .mode-low) (h .width-high))
+
+  tone-small : (n : ℕ) → n < 2 ^ 16 → tone512 b w c n < 2 ^ 53
+  unfolding tone512
+  tone-small n l =
       let h = limits in
       let low : edge512 w c ≤ 5120000 = edge-high w c (h .centre-high) in
       let small : spacing512 b w ≤ 512000 = spacing-high b w (h .mode-low) (h .width-high) in
-      let twice : spacing512 b w ≡ half512 b w * 2 = halved b (h .mode-high) w in
       let product : spacing512 b w * n ≤ 512000 * 65536 = mul-le-mul small (le-of-lt l) in
+      omega (arith, halved b (h .mode-high) w)
+
+  pub hertz-exact : (n : ℕ) → n < 2 ^ 16 → hertzIn (bandOf b w c) n ≡ hertzOf b w c n
+  unfolding hertzIn bandOf hertzOf tone512
+  hertz-exact n l =
+      let all : edge512 w c + half512 b w + spacing512 b w * n < 2 ^ 53 = tone-small n l in
+      let twice : spacing512 b w ≡ half512 b w * 2 = halved b (limits .mode-high) w in
       let half : div binary64 (scaled (spacing512 b w)) (whole 2) ≡ scaled (half512 b w) =
       ap (λ (k : ℕ). div binary64 (scaled k) (whole 2)) twice ∙ half-exact (half512 b w) (omega arith) in
       let first : add binary64 (scaled (edge512 w c)) (div binary64 (scaled (spacing512 b w)) (whole 2)) ≡ scaled (edge512 w c + half512 b w) =
@@ -99,19 +110,24 @@ module _ (b w c : ℕ) (e : fault b w c 0 ≡ 0) where
       ∙ sum-exact (edge512 w c + half512 b w) (spacing512 b w * n) (omega arith)
 
   pub tone-edge-exact : (n : ℕ) → n < 2 ^ 16 → toneEdgeIn (bandOf b w c) n ≡ scaled (toneEdge512 b w c n)
-  unfolding toneEdgeIn bandOf toneEdge512
+  unfolding toneEdgeIn bandOf toneEdge512 tone512
   tone-edge-exact n l =
-      let h = limits in
-      let low : edge512 w c ≤ 5120000 = edge-high w c (h .centre-high) in
-      let small : spacing512 b w ≤ 512000 = spacing-high b w (h .mode-low) (h .width-high) in
-      let product : spacing512 b w * n ≤ 512000 * 65536 = mul-le-mul small (le-of-lt l) in
+      let all : edge512 w c + half512 b w + spacing512 b w * n < 2 ^ 53 = tone-small n l in
       ap (λ (x : Float). add binary64 (scaled (edge512 w c)) x) (product-exact (spacing512 b w) n (omega arith) (omega arith))
       ∙ sum-exact (edge512 w c) (spacing512 b w * n) (omega arith)
 
-  pub tone-hertz-exact : (n : ℕ) → n < 2 ^ b → hertzIn (bandOf b w c) n ≡ hertzOf b w c n
-  tone-hertz-exact n l =
+  -- ---- a tone of the mode
+
+  in-16-bits : (n : ℕ) → n < 2 ^ b → n < 2 ^ 16
+  in-16-bits n l =
       let small : b ≤ 8 = limits .mode-high in
-      hertz-exact n (lt-of-lt-of-le l (pow-mono {i = b} {j = 16} (omega arith)))
+      lt-of-lt-of-le l (pow-mono {i = b} {j = 16} (omega arith))
+
+  pub tone-hertz-exact : (n : ℕ) → n < 2 ^ b → hertzIn (bandOf b w c) n ≡ hertzOf b w c n
+  tone-hertz-exact n l = hertz-exact n (in-16-bits n l)
+
+  pub mode-tone-small : (n : ℕ) → n < 2 ^ b → tone512 b w c n < 2 ^ 53
+  mode-tone-small n l = tone-small n (in-16-bits n l)
 
 -- ---- the fractions
 

@@ -1,13 +1,13 @@
 -- What an answer of `locate` says of a measurement (law `Tuning`).
 use mathlib.Core.Path.{_≡_, refl, sym, ap, _∙_, subst}
 use mathlib.Core.Bool.{Bool, true, false, cond, not, _&&_}
-use Prim.Native.Nat.{ℕ, suc, _+_, _-_, _*_, _^_, _<_, _≤_}
-use native.Mathlib.Nat.{mul-pos, mul-le-mul, mul-suc, le-of-lt, le-trans}
+use Prim.Native.Nat.{ℕ, suc, _+_, _-_, _^_, _<_}
+use native.Mathlib.Nat.{mul-pos, mul-suc}
 use native.Mathlib.Omega.{arith}
 use borrow.Author.Tests.{eqb-true, le-leb, lt-leb}
 use lib.Dec.{T, eqb}
 use lib.IntN.{pos}
-use lib.Pow.{pow-pos, pow-mono}
+use lib.Pow.{pow-pos}
 use lib.Ieee.{Float, nan, inf, fin, binary64, fits, neg, sub, lt, le, odd}
 use lib.Ieee.Scale.{finite}
 use Rattle.refusal.specs.Refused.{refusedAt}
@@ -17,13 +17,13 @@ use Rattle.scaled_order.specs.Order.{atLeast}
 use Rattle.scaled_order.proofs.Comparing.{scaled-least}
 use Rattle.scaled_order.proofs.Distances.{distance-law}
 use Rattle.band.specs.Limits.{fault}
-use Rattle.band.specs.Frequencies.{edge512, spacing512, half512, tone512, hertzOf}
+use Rattle.band.specs.Frequencies.{spacing512, half512, tone512, hertzOf}
 use Rattle.band.specs.Locating.{toneEdge512, owns, ownerOf, inBand, heardAs, locatedOf}
 use Rattle.band.specs.Laws.{isHeard, Tuning}
 use Rattle.band.specs.declared.Located.the-variants as located
 use Rattle.band.specs.declared.Tuned.the-variants as tuned
 use Rattle.band.proofs.Settings.{within, tone-0, tone-range}
-use Rattle.band.proofs.Formulas.{halved, spacing-high, edge-high}
+use Rattle.band.proofs.Formulas.{halved, half-small, mode-tone-small}
 use Rattle.band.proofs.Answers.{hertz-of-frequency}
 use Rattle.band.proofs.Owners.{owns-by, owned, one-owner, owner-is, owner-owns, owned-in-band}
 use Rattle.band.proofs.Locating.{located-heard}
@@ -81,16 +81,11 @@ owned-heard b w c n x e h =
 
 -- ---- a tone lies half a spacing from either end of its stretch
 
+half-pos : (b w c : ℕ) → fault b w c 0 ≡ 0 → 0 < half512 b w
+unfolding half512
+half-pos b w c e = mul-pos (within b w c 0 e .width-low) (pow-pos (8 - b))
+
 module _ (b w c n : ℕ) (e : fault b w c 0 ≡ 0) where
-  half-pos : 0 < half512 b w
-  unfolding half512
-  half-pos = mul-pos (within b w c 0 e .width-low) (pow-pos (8 - b))
-
-  half-small : half512 b w < 2 ^ 53
-  half-small =
-      let h = within b w c 0 e in
-      omega (arith, halved b (h .mode-high) w, spacing-high b w (h .mode-low) (h .width-high))
-
   tone-after : toneEdge512 b w c n + half512 b w ≡ tone512 b w c n
   unfolding toneEdge512 tone512
   tone-after = omega arith
@@ -99,21 +94,11 @@ module _ (b w c n : ℕ) (e : fault b w c 0 ≡ 0) where
   unfolding toneEdge512 tone512
   tone-before = omega (arith, mul-suc (spacing512 b w) n, halved b (within b w c 0 e .mode-high) w)
 
-  tone-small : n < 2 ^ b → tone512 b w c n < 2 ^ 53
-  unfolding tone512
-  tone-small l =
-      let h = within b w c 0 e in
-      let few : n ≤ 2 ^ 8 = le-trans (le-of-lt l) (pow-mono (h .mode-high)) in
-      let low : edge512 w c ≤ 5120000 = edge-high w c (h .centre-high) in
-      let small : spacing512 b w ≤ 512000 = spacing-high b w (h .mode-low) (h .width-high) in
-      let product : spacing512 b w * n ≤ 512000 * 2 ^ 8 = mul-le-mul small few in
-      omega (arith, halved b (h .mode-high) w)
-
   owns-own : owns b w c (hertzOf b w c n) n ≡ true
   unfolding hertzOf
   owns-own =
       let k = tone512 b w c n in
-      let some = half-pos in
+      let some = half-pos b w c e in
       owns-by b w c (hertzOf b w c n) n
       (scaled-least (toneEdge512 b w c n) k ∙ le-leb (toneEdge512 b w c n) k (omega (arith, tone-after)))
       (scaled-least (toneEdge512 b w c (suc n)) k ∙ lt-leb (toneEdge512 b w c (suc n)) k (omega (arith, tone-before)))
@@ -125,7 +110,7 @@ own-heard b w c n e =
     let k = tone512 b w c n in
     let none : k - k ≡ 0 = omega arith in
     owned-heard b w c n (hertzOf b w c n) e (owns-own b w c n right)
-    ∙ ap (located.Heard n) (difference-exact k k (omega arith) (tone-small b w c n right (tone-range b w c n e)) ∙ ap scaled none)
+    ∙ ap (located.Heard n) (difference-exact k k (omega arith) (mode-tone-small b w c right n (tone-range b w c n e)) ∙ ap scaled none)
 
 module _ (b w c n : ℕ) (x off : Float) (t : T (fits binary64 x)) (e : locatedOf b w c x ≡ located.Heard n off) where
   heard-off : Heard b w c n x off
@@ -144,12 +129,12 @@ module _ (b w c n : ℕ) (x off : Float) (t : T (fits binary64 x)) (e : locatedO
   from-half : le (neg (scaled (half512 b w))) off ≡ true
   from-half =
       let right = heard-off .right in
-      rw tone-off (distance-law .from (toneEdge512 b w c n) (half512 b w) x (half-pos b w c n right) (half-small b w c n right) t (stretch .0) (stretch .1))
+      rw tone-off (distance-law .from (toneEdge512 b w c n) (half512 b w) x (half-pos b w c right) (half-small b w c right) t (stretch .0) (stretch .1))
 
   below-half : lt off (scaled (half512 b w)) ≡ true
   below-half =
       let right = heard-off .right in
-      rw tone-off (distance-law .below (toneEdge512 b w c n) (half512 b w) x (half-pos b w c n right) (half-small b w c n right) t (stretch .0) (stretch .1))
+      rw tone-off (distance-law .below (toneEdge512 b w c n) (half512 b w) x (half-pos b w c right) (half-small b w c right) t (stretch .0) (stretch .1))
 
 pub tuning-law : Tuning
 tuning-law = record {
