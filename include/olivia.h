@@ -6,11 +6,12 @@
  * has to reach to be clear. A weight says how sure a tone is, from 0 to 15; where weights are passed the set lead
  * is 1 to 960.
  *
- * What a caller owes. A pointer with a count n is to n elements that may be read, and a pointer with a room is
- * to as many elements that may be read and written. Each is aligned for its type. With 0 elements it is not
- * followed, and may be NULL. Memory that is lent to be written overlaps nothing else that is passed, and nothing
- * else uses it during the call. Nothing else is asked: every other argument may have any value. No function
- * keeps a pointer, allocates memory or has a state.
+ * What a caller owes. A pointer with a count n is to n elements that may be read, and a pointer with a room is to
+ * as many elements that may be read and written. Each is aligned for its type. With 0 elements it is not followed,
+ * and may be NULL. A pointer to a sender is to one, which may be read and written. Memory that is lent to be
+ * written overlaps nothing else that is passed, and nothing else uses it during the call. Nothing else is asked:
+ * every other argument may have any value. No function keeps a pointer, allocates memory or has a state of its own;
+ * a sender's is in the caller's memory.
  *
  * What every function gives. It returns for every input, and the answer and what it leaves in the caller's
  * memory depend on what is passed alone. The checks are made in the order that its comment lists, and the first
@@ -37,6 +38,10 @@
  *   14  a weight above 15, of a missing tone too; the lowest place
  *   15  a measured frequency is infinite or not a number
  *   16  a measured frequency lies below the band's lower edge, or at or above its upper
+ *   17  the depot is not 0 to 29
+ *   18  the depot has 8 blocks waiting; place is the depot
+ *   19  with the block, the larger of 4 and its waiting blocks would sum to over 150 over all depots; place is the
+ *       depot
  */
 #ifndef OLIVIA_H
 #define OLIVIA_H
@@ -129,6 +134,20 @@ typedef struct {
     uint32_t sums[8];
 } olivia_energies;
 
+/* The state of a sender: 150 places of 10 bytes, each a waiting block's depot, its mode and up to 8 codes; then how
+ * many blocks each of 30 depots has waiting, how many places are filled, and the depot that the next send looks at
+ * first. The filled places come first, in the order in which the blocks were handed in. It can be copied and stored. */
+typedef struct {
+    uint8_t bytes[1532];
+} olivia_sender;
+
+/* The answer for a send. number 0 and count 64: a block of this depot was sent, in this mode. number 0 and count 0:
+ * none waiting. depot and mode are 0 unless a block was sent. */
+typedef struct {
+    olivia_answer answer;
+    uint32_t depot, mode;
+} olivia_sent;
+
 /* Encodes the n codes of a block. Checks 1, 5, 9, 6. Accepted: count is 64, and the first 64 elements of tones
  * are the block's tones. */
 olivia_answer olivia_encode_block(uint32_t mode, const uint8_t *codes, size_t n, uint16_t *tones, size_t room);
@@ -203,6 +222,24 @@ olivia_hertz olivia_frequency(uint32_t mode, uint32_t width, uint32_t centre, ui
  * for the frequency f that olivia_frequency gives of that tone. It is at least minus half a spacing, and below half a
  * spacing. For f itself it is 0.0. */
 olivia_located olivia_locate(uint32_t mode, uint32_t width, uint32_t centre, double hertz);
+
+/* A sender with nothing waiting. What follows of handing in and sending holds from a new sender on, each call getting
+ * the state that the last one left. Any other state still gets a result, which is left open, but that a call that is
+ * refused, or has none waiting, keeps it, and that 1, 5, 6, 17 and 9 are answered as always. */
+olivia_sender olivia_sender_new(void);
+
+/* A depot, 0 to 29, hands in a block of n codes. Checks 1, 5, 6, 17, 18, 19. Taken with number 0 if the depot has under
+ * 8 waiting and, after taking it, the sum over all depots of the larger of 4 and its waiting blocks is at most 150: so
+ * a depot with under 4 waiting meets neither 18 nor 19. count is 0. What another depot has waiting does not change. */
+olivia_answer olivia_hand_in(olivia_sender *sender, uint32_t depot, uint32_t mode, const uint8_t *codes, size_t n);
+
+/* Sends a block: of the first depot with one, looking from the one after the last served, from 0 when new, 29 followed
+ * by 0, its oldest, in the mode it was handed in with. Check 9, before anything else, of an output under 64 tones:
+ * no block is taken out. A block is sent with number 0 and count 64: the first 64 elements of tones are what
+ * olivia_encode_block gives for it, and its place is used again. A depot's blocks are sent in the order in which they
+ * were taken, and a depot with a block waiting is served within 30 sends, refused ones not counted. If no depot has
+ * one, count is 0 and nothing is written. Blocks taken are as many as blocks sent and blocks waiting. */
+olivia_sent olivia_send(olivia_sender *sender, uint16_t *tones, size_t room);
 
 /* Encodes the block text into tones, decodes the tones written into one, and decodes heard into two. Each answer
  * and output is that of the call of olivia_encode_block or olivia_decode_block; if encoding is refused, no tone

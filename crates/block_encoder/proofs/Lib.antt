@@ -1,3 +1,4 @@
 pub mod PartSymbols
 pub mod EncodeCases
+pub mod CheckCases
 pub mod Ranges

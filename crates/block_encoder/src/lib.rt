@@ -10,12 +10,19 @@ ghost use Rattle.lists.specs.Lists.{over};
 ghost use Rattle.refusal.specs.Checks.{isMode};
 ghost use Rattle.chain.specs.Chain.{tonesOf};
 ghost use Rattle.block_encoder.specs.Encoding.{firstBadCode, encodeBlock, encodedInto};
+ghost use Rattle.block_encoder.specs.Checking.{checkCodes};
 
 mod symbols;
 
 // The count of tones written, or the refusal.
 pub enum Encoded {
     Tones(usize),
+    Refused(Refusal),
+}
+
+// The codes are a block of the mode, or the refusal.
+pub enum Checked {
+    Right,
     Refused(Refusal),
 }
 
@@ -40,6 +47,24 @@ pub fn encode_block(mode: u32, codes: &[u8], tones: &mut [u16]) -> Encoded
     }
     put_tones(mode, codes, tones);
     Encoded::Tones(64)
+}
+
+// Whether the codes are a block of the mode, for a block that is to be sent later.
+pub fn check_codes(mode: u32, codes: &[u8]) -> Checked
+    ensures { λ r. ⌜ r ≡ checkCodes mode (now (codes .entry)) ⌝ }
+{
+    if !checks::is_mode(mode) {
+        return Checked::Refused(Refusal::at(refusal::MODE, 0));
+    }
+    let b = mode as usize;
+    if codes.len() != b {
+        return Checked::Refused(Refusal::at(refusal::CODE_COUNT, 0));
+    }
+    let bad = first_bad_code(codes);
+    if bad < b {
+        return Checked::Refused(Refusal::at(refusal::CODE, bad));
+    }
+    Checked::Right
 }
 
 // The lowest place of a code of 128 or more, else the count of codes.

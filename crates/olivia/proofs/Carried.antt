@@ -38,7 +38,11 @@ use Rattle.finder.specs.declared.Finding.{Finding}
 use Rattle.energy.specs.Energies.{summed, heardEnergies}
 use Rattle.energy.specs.Energies as energies
 use Rattle.energy.specs.declared.Energies.{Energies}
-use Rattle.told.proofs.Kept.{carriedBy, heardCarries, findingCarries, totalledCarries}
+use Rattle.block_encoder.specs.declared.Checked.{Checked}
+use Rattle.block_encoder.specs.Checking.{checkCodes}
+use Rattle.sender.specs.declared.Handed.{Handed}
+use Rattle.sender.specs.Queues.{Block, reserved, oneMore, placeAnswer, afterCheck, handAnswer}
+use Rattle.told.proofs.Kept.{carriedBy, heardCarries, findingCarries, totalledCarries, handedCarries}
 
 -- what holds of each of two answers holds of the one that a test chooses
 either-way : {A : Type 0} (P : A → Type 0) (t : Bool) (x y : A) → (t ≡ true → P x) → (t ≡ false → P y) → P (cond t x y)
@@ -183,3 +187,27 @@ frequency-refused-at-0 b w c n r e = by (eqb (fault b w c n) 0) e
     by : (t : Bool) → cond t (tuned.Hertz (hertzOf b w c n)) (tuned.Refused (refusedAt (fault b w c n) 0)) ≡ tuned.Refused r → r .place ≡ 0
     by true e = let z : _≡_ {A = ℕ} 0 1 = cc in absurd (omega arith)
     by false e = cc
+
+-- ---- a block handed in
+
+placed-small : (counts : ℕ → ℕ) (depot : ℕ) → handedCarries (placeAnswer counts depot) < 2 ^ 32
+unfolding placeAnswer
+placed-small counts depot =
+    either-way SmallHanded (ltb 29 depot) _ _ (λ _. omega arith) (λ known.
+    either-way SmallHanded (leb 8 (counts depot)) _ _ (λ _. omega (arith, ltb-false 29 depot known)) (λ _.
+    either-way SmallHanded (ltb 150 (reserved (oneMore counts depot))) _ _ (λ _. omega (arith, ltb-false 29 depot known)) (λ _. omega arith)))
+  where
+    SmallHanded : Handed → Type 0
+    SmallHanded answer = handedCarries answer < 2 ^ 32
+
+pub handed-small : (counts : ℕ → ℕ) (depot : ℕ) (b : Block) → handedCarries (handAnswer counts depot b) < 2 ^ 32
+unfolding handAnswer afterCheck checkCodes
+handed-small counts depot b =
+    either-way Small (not (isMode (b .mode))) _ _ (λ _. omega arith) (λ mode.
+    either-way Small (not (eqb (length (b .codes)) (b .mode))) _ _ (λ _. omega arith) (λ _.
+    either-way Small (ltb (firstBadCode (b .codes)) (b .mode)) _ _
+    (λ bad. omega (arith, ltb-true (firstBadCode (b .codes)) (b .mode) bad, mode-range (b .mode) (not-false _ mode)))
+    (λ _. placed-small counts depot)))
+  where
+    Small : Checked → Type 0
+    Small checked = handedCarries (afterCheck checked (placeAnswer counts depot)) < 2 ^ 32

@@ -1,10 +1,13 @@
 // The C library: the entries of documents 01 and 02 for C and C++. include/olivia.h declares them.
 use refusal::checks;
+use sender::Sender;
+use sender::lent;
 use told::Answer;
 use told::BlockAnswer;
 use told::EnergiesAnswer;
 use told::FoundAnswer;
 use told::LocatedAnswer;
+use told::SentAnswer;
 ghost use mathlib.Core.Path.{_≡_};
 ghost use lib.ListN.{length};
 ghost use Rattle.block_encoder.specs.Encoding.{encodeBlock, encodedInto};
@@ -17,6 +20,9 @@ ghost use Rattle.band.specs.Locating.{locatedOf};
 ghost use Rattle.finder.specs.Finding.{findBlock, foundInto};
 ghost use Rattle.energy.specs.Energies.{blockEnergies, weightedEnergies};
 ghost use Rattle.told.specs.Told.{encodedTold, decodedTold, blockTold, foundTold, energiesTold, locatedTold};
+ghost use Rattle.sender.specs.Queues.{new};
+ghost use Rattle.sender.specs.State.{Holds};
+ghost use Rattle.olivia.specs.Sending.{HandedInForC, SentForC};
 ghost use Rattle.olivia.specs.Told.{lookedAnswer, lookedTold, hertzTold};
 ghost use Rattle.olivia.specs.Tried.{TriedForC};
 ghost use Rattle.olivia.specs.WeightedTried.{WeightedTriedForC};
@@ -180,6 +186,34 @@ pub extern "C" fn olivia_locate(mode: u32, width: u32, centre: u32, hertz: f64) 
     ensures { λ r. ⌜ r ≡ locatedTold (locatedOf mode width centre hertz) ⌝ }
 {
     told::located(band::locate(mode, width, centre, hertz))
+}
+
+#[no_mangle]
+pub extern "C" fn olivia_sender_new() -> Sender
+    ensures { λ r. ⌜ Holds new (r .bytes) ⌝ }
+{
+    Sender::new()
+}
+
+// The promise of sender::lent::hand_in, of the answer as C is told it.
+#[no_mangle]
+pub extern "C" fn olivia_hand_in(
+    state: &mut [u8; 1532],
+    depot: u32,
+    mode: u32,
+    codes: &[u8],
+) -> Answer
+    ensures { λ r. ⌜ HandedInForC (now (state .entry)) depot (record { mode = mode; codes = now (codes .entry) }) r (now (state .exit)) ⌝ }
+{
+    told::handed(lent::hand_in(state, depot, mode, codes))
+}
+
+// The promise of sender::lent::send, of the answer as C is told it.
+#[no_mangle]
+pub extern "C" fn olivia_send(state: &mut [u8; 1532], tones: &mut [u16]) -> SentAnswer
+    ensures { λ r. ⌜ SentForC (now (state .entry)) (now (tones .entry)) r (now (tones .exit)) (now (state .exit)) ⌝ }
+{
+    told::sent(lent::send(state, tones))
 }
 
 // The promise of trial::run, of the answers as C is told them.

@@ -37,6 +37,12 @@ pub const WEIGHT: u8 = 14;
 pub const NOT_FINITE: u8 = 15;
 // The bench: a measured frequency lies below the band's lower edge, or at or above its upper.
 pub const OUTSIDE_BAND: u8 = 16;
+// The writer: the depot is not 0 to 29.
+pub const DEPOT: u8 = 17;
+// The writer: the depot has 8 blocks waiting.
+pub const DEPOT_FULL: u8 = 18;
+// The writer: with the block, the larger of 4 and its waiting blocks would sum to over 150 over all depots.
+pub const ALL_FULL: u8 = 19;
 
 // Number, place and lead; the lead is 0 but for UNCLEAR.
 pub struct Refusal {

@@ -15,10 +15,14 @@ use Rattle.finder.specs.declared.BlockFound.{BlockFound}
 use Rattle.energy.specs.declared.Totalled.{Totalled}
 use Rattle.energy.specs.declared.Totalled.the-variants as totalled
 use Rattle.energy.specs.declared.Energies.{Energies}
+use Rattle.sender.specs.declared.Handed.{Handed}
+use Rattle.sender.specs.declared.Handed.the-variants as handed
+use Rattle.sender.specs.declared.Sent.{Sent}
+use Rattle.sender.specs.declared.Sent.the-variants as sent
 use Rattle.band.specs.Locating.{refusalOf}
 use Rattle.band.specs.declared.Located.{Located}
 use Rattle.band.specs.declared.Located.the-variants as located
-use Rattle.told.specs.Capped.{placeCapped, sentCapped, heardCapped, blockCapped, findingCapped, foundCapped, totalledCapped, energiesCapped, locatedCapped}
+use Rattle.told.specs.Capped.{placeCapped, sentCapped, heardCapped, blockCapped, findingCapped, foundCapped, totalledCapped, energiesCapped, locatedCapped, handedCapped, outCapped}
 
 -- the count or the place that an answer carries
 abbrev pub carriedBy : Encoded → ℕ
@@ -36,6 +40,10 @@ findingCarries (finding.Refused r) = r .place
 abbrev pub totalledCarries : Totalled → ℕ
 totalledCarries (totalled.Total n) = 0
 totalledCarries (totalled.Refused r) = r .place
+
+abbrev pub handedCarries : Handed → ℕ
+handedCarries handed.Taken = 0
+handedCarries (handed.Refused r) = r .place
 
 pub small-kept : (n : ℕ) → n < 2 ^ 32 → capped n ≡ n
 unfolding capped
@@ -74,3 +82,12 @@ located-kept (located.Heard n off) h = refl
 located-kept located.NotFinite h = refl
 located-kept located.OutsideBand h = refl
 located-kept (located.Refused r) h = ap located.Refused (place-kept r (omega (arith, h)))
+
+pub handed-kept : (a : Handed) → handedCarries a < 2 ^ 32 → handedCapped a ≡ a
+handed-kept handed.Taken h = refl
+handed-kept (handed.Refused r) h = ap handed.Refused (place-kept r h)
+
+pub out-kept : (a : Sent) → ((r : Refusal) → a ≡ sent.Refused r → r .place < 2 ^ 32) → outCapped a ≡ a
+out-kept (sent.Block depot mode) h = refl
+out-kept sent.NoneWaiting h = refl
+out-kept (sent.Refused r) h = ap sent.Refused (place-kept r (h r refl))

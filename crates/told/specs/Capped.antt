@@ -12,6 +12,10 @@ use Rattle.finder.specs.declared.BlockFound.{BlockFound}
 use Rattle.energy.specs.declared.Totalled.{Totalled}
 use Rattle.energy.specs.declared.Totalled.the-variants as totalled
 use Rattle.energy.specs.declared.Energies.{Energies}
+use Rattle.sender.specs.declared.Handed.{Handed}
+use Rattle.sender.specs.declared.Handed.the-variants as handed
+use Rattle.sender.specs.declared.Sent.{Sent}
+use Rattle.sender.specs.declared.Sent.the-variants as sent
 use Rattle.band.specs.declared.Located.{Located}
 use Rattle.band.specs.declared.Located.the-variants as located
 
@@ -57,3 +61,14 @@ locatedCapped (located.Heard n off) = located.Heard n off
 locatedCapped located.NotFinite = located.NotFinite
 locatedCapped located.OutsideBand = located.OutsideBand
 locatedCapped (located.Refused r) = located.Refused (placeCapped r)
+
+-- what handing in answers, with its place capped
+abbrev pub handedCapped : Handed → Handed
+handedCapped handed.Taken = handed.Taken
+handedCapped (handed.Refused r) = handed.Refused (placeCapped r)
+
+-- the same of sending
+abbrev pub outCapped : Sent → Sent
+outCapped (sent.Block depot mode) = sent.Block depot mode
+outCapped sent.NoneWaiting = sent.NoneWaiting
+outCapped (sent.Refused r) = sent.Refused (placeCapped r)

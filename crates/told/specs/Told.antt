@@ -18,6 +18,10 @@ use Rattle.finder.specs.declared.BlockFound.{BlockFound}
 use Rattle.energy.specs.declared.Totalled.{Totalled}
 use Rattle.energy.specs.declared.Totalled.the-variants as totalled
 use Rattle.energy.specs.declared.Energies.{Energies}
+use Rattle.sender.specs.declared.Handed.{Handed}
+use Rattle.sender.specs.declared.Handed.the-variants as handed
+use Rattle.sender.specs.declared.Sent.{Sent}
+use Rattle.sender.specs.declared.Sent.the-variants as sent
 use Rattle.scaled.specs.Exact.{scaled}
 use Rattle.band.specs.Locating.{refusalOf}
 use Rattle.band.specs.declared.Located.{Located}
@@ -28,6 +32,7 @@ use Rattle.told.specs.declared.BlockAnswer.{BlockAnswer}
 use Rattle.told.specs.declared.FoundAnswer.{FoundAnswer}
 use Rattle.told.specs.declared.EnergiesAnswer.{EnergiesAnswer}
 use Rattle.told.specs.declared.LocatedAnswer.{LocatedAnswer}
+use Rattle.told.specs.declared.SentAnswer.{SentAnswer}
 
 -- number 0: accepted, with the count of tones or codes written
 abbrev pub acceptedTold : ℕ → Answer
@@ -87,3 +92,14 @@ locatedTold (located.Heard n off) = record { number = 0; place = 0; tone = n; «
 locatedTold located.NotFinite = nowhereTold (refusalOf located.NotFinite)
 locatedTold located.OutsideBand = nowhereTold (refusalOf located.OutsideBand)
 locatedTold (located.Refused r) = nowhereTold (refusalOf (located.Refused r))
+
+-- a block that is handed in writes nothing yet
+abbrev pub handedTold : Handed → Answer
+handedTold handed.Taken = acceptedTold 0
+handedTold (handed.Refused r) = refusalTold r
+
+-- 64 tones of a depot's block, or none
+abbrev pub sentTold : Sent → SentAnswer
+sentTold (sent.Block depot mode) = record { answer = acceptedTold 64; depot = depot; mode = mode }
+sentTold sent.NoneWaiting = record { answer = acceptedTold 0; depot = 0; mode = 0 }
+sentTold (sent.Refused r) = record { answer = refusalTold r; depot = 0; mode = 0 }

@@ -10,10 +10,12 @@ use energy::Totalled;
 use finder::BlockFound;
 use finder::Finding;
 use refusal::Refusal;
+use sender::Handed;
+use sender::Sent;
 ghost use mathlib.Core.Path.{_≡_};
 ghost use Rattle.lists.specs.Caps.{capped};
-ghost use Rattle.told.specs.Told.{acceptedTold, refusalTold, encodedTold, decodedTold, characterTold, charactersTold, blockTold, foundTold, energiesTold, nowhereTold, locatedTold};
-ghost use Rattle.told.specs.Capped.{placeCapped, sentCapped, heardCapped, blockCapped, foundCapped, energiesCapped, locatedCapped};
+ghost use Rattle.told.specs.Told.{acceptedTold, refusalTold, encodedTold, decodedTold, characterTold, charactersTold, blockTold, foundTold, energiesTold, nowhereTold, locatedTold, handedTold, sentTold};
+ghost use Rattle.told.specs.Capped.{placeCapped, sentCapped, heardCapped, blockCapped, foundCapped, energiesCapped, locatedCapped, handedCapped, outCapped};
 
 // number 0: accepted, and count is the tones or codes written. Else the refusal, and count is 0.
 #[repr(C)]
@@ -66,6 +68,14 @@ pub struct LocatedAnswer {
     pub place: u32,
     pub tone: u32,
     pub hertz_off: f64,
+}
+
+// The answer for a send, the depot served, and the mode of its block; zeros where no block was sent.
+#[repr(C)]
+pub struct SentAnswer {
+    pub answer: Answer,
+    pub depot: u32,
+    pub mode: u32,
 }
 
 pub fn encoded(answer: Encoded) -> Answer
@@ -167,6 +177,39 @@ fn nowhere(refusal: Refusal) -> LocatedAnswer
         place: told.place,
         tone: 0,
         hertz_off: 0.0,
+    }
+}
+
+// A block that is handed in writes nothing yet, so that its count is 0.
+pub fn handed(answer: Handed) -> Answer
+    ensures { λ r. ⌜ r ≡ handedTold (handedCapped answer) ⌝ }
+{
+    match answer {
+        Handed::Taken => accepted(0),
+        Handed::Refused(refusal) => refused(refusal),
+    }
+}
+
+// The count tells a block from none waiting.
+pub fn sent(answer: Sent) -> SentAnswer
+    ensures { λ r. ⌜ r ≡ sentTold (outCapped answer) ⌝ }
+{
+    match answer {
+        Sent::Block(depot, mode) => SentAnswer {
+            answer: accepted(64),
+            depot,
+            mode,
+        },
+        Sent::NoneWaiting => SentAnswer {
+            answer: accepted(0),
+            depot: 0,
+            mode: 0,
+        },
+        Sent::Refused(refusal) => SentAnswer {
+            answer: refused(refusal),
+            depot: 0,
+            mode: 0,
+        },
     }
 }
 

@@ -1,0 +1,13 @@
+pub mod Totals
+pub mod Rounds
+pub mod Steps
+pub mod Cases
+pub mod Calls
+pub mod PlaceCases
+pub mod Reached
+pub mod Bytes
+pub mod Filled
+pub mod Storing
+pub mod Serving
+pub mod HandingIn
+pub mod SendingOut
