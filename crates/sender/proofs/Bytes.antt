@@ -1,8 +1,8 @@
 -- The loops that write bytes: a block into a place, and the places after one moved up.
-use mathlib.Core.Path.{_≡_, refl, sym, _∙_, ap}
+use mathlib.Core.Path.{_≡_, refl, _∙_}
 use mathlib.Core.List.{List}
 use Prim.Native.Nat.{ℕ, _+_, _*_, _<_, _≤_}
-use native.Mathlib.Decide.{ℕ-discrete, decLt}
+use native.Mathlib.Decide.{ℕ-discrete}
 use native.Mathlib.Omega.{arith}
 use lib.ListN.{length, set, length-set}
 use lib.Seq.{getD-set-same, getD-set-other}
@@ -70,16 +70,6 @@ pub record Moving (at count : ℕ) (bytes : List ℕ) (next : List ℕ) (i : ℕ
   pub rest : (j : ℕ) → i ≤ j → num next j ≡ num bytes j
 
 module _ (at count : ℕ) (bytes : List ℕ) where
-  pub moving-start : length bytes ≡ 1532 → at < count → Moving at count bytes bytes (10 * at)
-  moving-start size l = record {
-    size = size;
-    low = omega arith;
-    high = omega arith;
-    before = λ j h. refl;
-    moved = λ j h k. absurd (omega arith);
-    rest = λ j h. refl;
-  }
-
   module _ (next : List ℕ) (i : ℕ) (m : Moving at count bytes next i) where
     pub moving-more : i + 10 < 10 * count → i < 1532 → Moving at count bytes (set next i (num next (i + 10))) (i + 1)
     moving-more more inside = record {

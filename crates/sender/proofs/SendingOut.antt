@@ -1,6 +1,5 @@
 -- What sending promises, from what the bytes hold.
 use mathlib.Core.Path.{_≡_, refl, sym, _∙_, ap, ap₂}
-use mathlib.Core.Bool.{Bool, true, false}
 use mathlib.Core.List.{List}
 use Prim.Native.Nat.{ℕ, _+_, _%_, _<_, _≤_}
 use native.Mathlib.Omega.{arith}
@@ -12,9 +11,9 @@ use Rattle.refusal.specs.Refused.{refusedAt}
 use Rattle.sender.specs.declared.Sent.{Sent}
 use Rattle.sender.specs.declared.Sent.the-variants as sent
 use Rattle.sender.specs.Queues.{Queues, new, waiting, ahead, nextDepot, oldest, sendAnswer, sentBy, tonesBy}
-use Rattle.sender.specs.Runs.{Call, send, after, run}
+use Rattle.sender.specs.Runs.{Call, after, run}
 use Rattle.sender.specs.State.{countsIn, Holds}
-use Rattle.sender.specs.Sending.{SentFrom, isBlock, Unchanged, SentFromAny}
+use Rattle.sender.specs.Sending.{SentFrom, Unchanged, SentFromAny}
 use Rattle.sender.specs.Internal.{Serves, ServedFrom}
 use Rattle.sender.proofs.Steps.{ahead-ext}
 use Rattle.sender.proofs.Cases.{next-some}

@@ -1,6 +1,5 @@
 // Thirty depots hand blocks to one transmitter, which sends them in turn: document 02, order 7.
 use refusal::Refusal;
-ghost use mathlib.Core.Path.{_≡_};
 ghost use Rattle.sender.specs.Queues.{new};
 ghost use Rattle.sender.specs.State.{Holds};
 ghost use Rattle.sender.specs.Sending.{HandedIn, HandedToAny, SentFrom, SentFromAny};

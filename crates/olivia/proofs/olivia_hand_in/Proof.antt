@@ -9,20 +9,13 @@ use Rattle.olivia.proofs.Carried.{handed-small}
 use borrow.Author.Needs.{needs}
 use Rattle.olivia.proofs.olivia_hand_in.Statement.{statement}
 use Rattle.olivia.proofs.olivia_hand_in.Tie as tie
-use Rattle.olivia.proofs.olivia_hand_in.Reads as reads
-use Rattle.olivia.proofs.olivia_hand_in.Lts as lts
-use Rattle.sender.proofs.lent.hand_in.Reads as hand-in-reads
-use Rattle.told.proofs.handed.Reads as handed-reads
 
--- src/lib.rt:208:18
 hand-in-requires : tie.Need-hand-in-requires
 hand-in-requires c κs = search needs
 
--- src/lib.rt:208:5
 handed-requires : tie.Need-handed-requires
 handed-requires c κs = search needs
 
--- src/lib.rt:199:1
 -- the place of a refusal, of a state or of what is none by its size
 place-small : (c : tie.After-hand-in) → Dec (length (c .before .before .before .args .state .now) ≡ 1532) → handedCarries (c .hand-in .result) < 2 ^ 32
 place-small c (yes size) = rw (c .hand-in .ensures .1 .answered size) (handed-small _ _ _)

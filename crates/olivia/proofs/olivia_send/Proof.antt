@@ -1,28 +1,20 @@
-use mathlib.Core.Path.{_≡_, _∙_, ap}
+use mathlib.Core.Path.{_∙_, ap}
 use native.Mathlib.Omega.{arith}
 use Rattle.told.specs.Told.{sentTold}
 use Rattle.told.proofs.Kept.{out-kept}
 use borrow.Author.Needs.{needs}
 use Rattle.olivia.proofs.olivia_send.Statement.{statement}
 use Rattle.olivia.proofs.olivia_send.Tie as tie
-use Rattle.olivia.proofs.olivia_send.Reads as reads
-use Rattle.olivia.proofs.olivia_send.Lts as lts
-use Rattle.sender.proofs.lent.send.Reads as send-reads
-use Rattle.told.proofs.sent.Reads as sent-reads
 
--- src/lib.rt:216:16
 send-requires : tie.Need-send-requires
 send-requires c κs = search needs
 
--- src/lib.rt:216:5
 sent-requires : tie.Need-sent-requires
 sent-requires c κs = search needs
 
--- src/lib.rt:212:1
 same-length : tie.Need-same-length
 same-length c = search needs
 
--- src/lib.rt:212:1
 returns : tie.Need-returns
 returns c =
     let called = c .before .before .before .send in

@@ -2,33 +2,23 @@ use Rattle.lists.specs.Caps.{capped}
 use borrow.Author.Needs.{needs}
 use Rattle.told.proofs.handed.Statement.{statement}
 use Rattle.told.proofs.handed.Tie as tie
-use Rattle.told.proofs.handed.Reads as reads
-use Rattle.told.proofs.handed.Lts as lts
-use Rattle.told.proofs.accepted.Reads as accepted-reads
-use Rattle.told.proofs.refused.Reads as refused-reads
 
--- src/lib.rt:188:26
 enum-told : tie.Need-enum-told
 enum-told c = search needs
 
--- src/lib.rt:188:26
 accepted-requires : tie.Need-accepted-requires
 accepted-requires c κs = search needs
 
--- src/lib.rt:189:25
 enum-known-answer : tie.Need-enum-known-answer
 enum-known-answer c = search needs
 
--- src/lib.rt:189:37
 refused-requires : tie.Need-refused-requires
 refused-requires c κs = search needs
 
--- src/lib.rt:184:1
 returns : tie.Need-returns
 unfolding capped
 returns c = rw (c .before .enum-told .given .1) (c .accepted .ensures)
 
--- src/lib.rt:184:1
 returns-2 : tie.Need-returns-2
 returns-2 c = rw (c .before .before .answer .given .1) (c .refused .ensures)
 

@@ -3,46 +3,33 @@ use Rattle.lists.specs.Caps.{capped}
 use borrow.Author.Needs.{needs}
 use Rattle.told.proofs.sent.Statement.{statement}
 use Rattle.told.proofs.sent.Tie as tie
-use Rattle.told.proofs.sent.Reads as reads
-use Rattle.told.proofs.sent.Lts as lts
-use Rattle.told.proofs.accepted.Reads as accepted-reads
-use Rattle.told.proofs.refused.Reads as refused-reads
 
--- src/lib.rt:198:21
 enum-known-answer : tie.Need-enum-known-answer
 enum-known-answer c = search needs
 
--- src/lib.rt:199:21
 accepted-requires : tie.Need-accepted-requires
 accepted-requires c κs = search needs
 
--- src/lib.rt:204:21
 enum-told : tie.Need-enum-told
 enum-told c = search needs
 
--- src/lib.rt:204:21
 accepted-requires-2 : tie.Need-accepted-requires-2
 accepted-requires-2 c κs = search needs
 
--- src/lib.rt:208:23
 enum-known-answer-2 : tie.Need-enum-known-answer-2
 enum-known-answer-2 c = search needs
 
--- src/lib.rt:209:21
 refused-requires : tie.Need-refused-requires
 refused-requires c κs = search needs
 
--- src/lib.rt:194:1
 returns : tie.Need-returns
 unfolding capped
 returns c = rw (c .before .before .answer .given .1, c .accepted .ensures) refl
 
--- src/lib.rt:194:1
 returns-2 : tie.Need-returns-2
 unfolding capped
 returns-2 c = rw (c .before .enum-told .given .1, c .accepted2 .ensures) refl
 
--- src/lib.rt:194:1
 returns-3 : tie.Need-returns-3
 returns-3 c = rw (c .before .before .answer2 .given .1, c .refused .ensures) refl
 

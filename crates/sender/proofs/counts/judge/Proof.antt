@@ -1,34 +1,24 @@
-use mathlib.Core.Path.{_≡_, sym, _∙_, ap}
+use mathlib.Core.Path.{sym, _∙_}
 use Rattle.sender.proofs.PlaceCases.{right-answered, wrong-refused}
 use borrow.Author.Needs.{needs}
 use Rattle.sender.proofs.counts.judge.Statement.{statement}
 use Rattle.sender.proofs.counts.judge.Tie as tie
-use Rattle.sender.proofs.counts.judge.Reads as reads
-use Rattle.sender.proofs.counts.judge.Lts as lts
-use Rattle.block_encoder.proofs.check_codes.Reads as check-codes-reads
-use Rattle.sender.proofs.counts.place.Reads as place-reads
 
--- src/counts.rt:59:11
 check-codes-requires : tie.Need-check-codes-requires
 check-codes-requires c κs = search needs
 
--- src/counts.rt:60:27
 enum-told : tie.Need-enum-told
 enum-told c = search needs
 
--- src/counts.rt:60:27
 place-requires : tie.Need-place-requires
 place-requires c κs = search needs
 
--- src/counts.rt:61:26
 enum-known-refusal : tie.Need-enum-known-refusal
 enum-known-refusal c = search needs
 
--- src/counts.rt:55:1
 returns : tie.Need-returns
 returns c = c .place .ensures ∙ sym (right-answered _ _ _ (sym (c .before .before .before .check-codes .ensures) ∙ c .before .enum-told .given .1))
 
--- src/counts.rt:55:1
 returns-2 : tie.Need-returns-2
 returns-2 c = sym (wrong-refused _ _ _ (sym (c .before .before .before .check-codes .ensures) ∙ c .before .refusal .given .1))
 

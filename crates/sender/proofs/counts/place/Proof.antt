@@ -1,4 +1,4 @@
-use mathlib.Core.Path.{_≡_, sym, _∙_, ap}
+use mathlib.Core.Path.{sym, _∙_, ap}
 use native.Mathlib.Omega.{arith}
 use Rattle.sender.specs.declared.Handed.the-variants.{Refused}
 use Rattle.sender.specs.State.{countsIn}
@@ -7,65 +7,46 @@ use Rattle.sender.proofs.PlaceCases.{refuses-depot, refuses-full, refus
 use borrow.Author.Needs.{needs}
 use Rattle.sender.proofs.counts.place.Statement.{statement}
 use Rattle.sender.proofs.counts.place.Tie as tie
-use Rattle.sender.proofs.counts.place.Reads as reads
-use Rattle.sender.proofs.counts.place.Lts as lts
-use Rattle.refusal.proofs.Refusal.at.Reads as at-reads
-use Rattle.sender.proofs.counts.reserved.Reads as reserved-reads
-use Rattle.sender.proofs.counts.share.Reads as share-reads
 
--- src/counts.rt:41:32
 at-requires : tie.Need-at-requires
 at-requires c κs = search needs
 
--- src/counts.rt:41:9
 returns : tie.Need-returns
 returns c = ap Refused (c .at .ensures) ∙ sym (refuses-depot _ _ (c .before .if1 .taken))
 
--- src/counts.rt:44:21
 add-own : tie.Need-add-own
 add-own c = search needs
 
--- src/counts.rt:44:15
 shared-slice-read-own : tie.Need-shared-slice-read-own
 shared-slice-read-own c = search needs
 
--- src/counts.rt:46:32
 at-requires-2 : tie.Need-at-requires-2
 at-requires-2 c κs = search needs
 
--- src/counts.rt:46:9
 returns-2 : tie.Need-returns-2
 returns-2 c = ap Refused (c .at2 .ensures) ∙ sym (refuses-full _ _ (omega arith) (c .before .if2 .taken))
 
--- src/counts.rt:48:14
 share-requires : tie.Need-share-requires
 share-requires c κs = search needs
 
--- src/counts.rt:48:8
 add-if3 : tie.Need-add-if3
 add-if3 c = search needs
 
--- src/counts.rt:48:27
 reserved-requires : tie.Need-reserved-requires
 reserved-requires c κs = search needs
 
--- src/counts.rt:48:51
 add-share : tie.Need-add-share
 add-share c = search needs
 
--- src/counts.rt:48:45
 share-requires-2 : tie.Need-share-requires-2
 share-requires-2 c κs = search needs
 
--- src/counts.rt:48:27
 add-if3-2 : tie.Need-add-if3-2
 add-if3-2 c = search needs
 
--- src/counts.rt:49:32
 at-requires-3 : tie.Need-at-requires-3
 at-requires-3 c κs = search needs
 
--- src/counts.rt:49:9
 returns-3 : tie.Need-returns-3
 returns-3 c =
     let s2 = c .before .before in
@@ -76,7 +57,6 @@ returns-3 c =
     ∙ sym (refuses-sum (countsIn (a .state .now)) (a .depot) (omega arith) (omega arith)
     (omega (arith, one-more-reserved (countsIn (a .state .now)) (a .depot) (omega arith), c .before .if3 .taken, s2 .share2 .ensures .0, r .reserved .ensures .0, s1 .share .ensures .0)))
 
--- src/counts.rt:36:1
 returns-4 : tie.Need-returns-4
 returns-4 c =
     let s2 = c .before in

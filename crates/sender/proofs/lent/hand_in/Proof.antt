@@ -9,25 +9,16 @@ use Rattle.sender.proofs.HandingIn.{no-state, refused-in, taken-in}
 use borrow.Author.Needs.{needs}
 use Rattle.sender.proofs.lent.hand_in.Statement.{statement}
 use Rattle.sender.proofs.lent.hand_in.Tie as tie
-use Rattle.sender.proofs.lent.hand_in.Reads as reads
-use Rattle.sender.proofs.lent.hand_in.Lts as lts
-use Rattle.refusal.proofs.Refusal.at.Reads as at-reads
-use Rattle.sender.proofs.counts.judge.Reads as judge-reads
-use Rattle.sender.proofs.lent.store.Reads as store-reads
 
--- src/lent.rt:20:32
 at-requires : tie.Need-at-requires
 at-requires c κs = search needs
 
--- src/lent.rt:20:9
 returns : tie.Need-returns
 returns c = no-state _ _ _ (c .at .ensures) (c .before .if1 .taken)
 
--- src/lent.rt:22:9
 judge-requires : tie.Need-judge-requires
 judge-requires c κs = search needs
 
--- src/lent.rt:25:19
 enum-told : tie.Need-enum-told
 enum-told c = search needs
 
@@ -42,37 +33,29 @@ answers-taken c = sym (c .before .before .before .judge .ensures) ∙ c .before 
 taken : (c : tie.After-store-arg) → Takes (countsIn (c .before .before .before .before .before .before .before .before .args .state .now)) (c .before .before .before .before .before .before .before .before .args .depot) (block c)
 taken c = taken-checks _ _ _ (answers-taken c)
 
--- src/lent.rt:25:26
 cast-store : tie.Need-cast-store
 cast-store c = let l = taken c .known in search needs
 
--- src/lent.rt:25:39
 cast-store-2 : tie.Need-cast-store-2
 cast-store-2 c = let l = mode-range (block c .mode) (taken c .right .mode) .1 in search needs
 
--- src/lent.rt:25:13
 store-requires : tie.Need-store-requires
 store-requires c κs =
     let t = taken c in
     (search needs, t .known, t .own, omega (arith, t .right .count, mode-range (block c .mode) (t .right .mode) .1))
 
--- src/lent.rt:28:25
 enum-known-answer : tie.Need-enum-known-answer
 enum-known-answer c = search needs
 
--- src/lent.rt:15:1
 same-length : tie.Need-same-length
 same-length c = search needs
 
--- src/lent.rt:15:1
 returns-2 : tie.Need-returns-2
 returns-2 c = taken-in _ _ _ (c .before .before .before .before .before .before .before .before .if1 .left) _ (answers-taken (c .before .before .before)) (c .before .before .store .ensures)
 
--- src/lent.rt:15:1
 same-length-2 : tie.Need-same-length-2
 same-length-2 c = search needs
 
--- src/lent.rt:15:1
 returns-3 : tie.Need-returns-3
 returns-3 c = refused-in _ _ _ (c .before .before .before .before .before .if1 .left) _ (sym (c .before .before .before .judge .ensures) ∙ c .before .answer .given .1)
 

@@ -14,22 +14,13 @@ use Rattle.sender.proofs.Serving.{places-fit, place-there, oldest-there
 use borrow.Author.Needs.{needs}
 use Rattle.sender.proofs.lent.serve.Statement.{statement}
 use Rattle.sender.proofs.lent.serve.Tie as tie
-use Rattle.sender.proofs.lent.serve.Reads as reads
-use Rattle.sender.proofs.lent.serve.Lts as lts
-use Rattle.block_encoder.proofs.encode_block.Reads as encode-block-reads
-use Rattle.sender.proofs.places.code_count.Reads as code-count-reads
-use Rattle.sender.proofs.places.place_of.Reads as place-of-reads
-use Rattle.sender.proofs.places.remove.Reads as remove-reads
 
--- src/lent.rt:70:17
 slice-read-count : tie.Need-slice-read-count
 slice-read-count c = search needs
 
--- src/lent.rt:70:17
 cast-count : tie.Need-cast-count
 cast-count c = let fits = c .slice-known3 .given 1530 in search needs
 
--- src/lent.rt:72:9
 returns : tie.Need-returns
 returns c =
     let s = c .before .before .before .before in
@@ -39,19 +30,15 @@ returns c =
       kept = λ e. record { output = refl; state-kept = refl };
     }
 
--- src/lent.rt:74:45
 cast-place-of : tie.Need-cast-place-of
 cast-place-of c = search needs
 
--- src/lent.rt:74:9
 place-of-requires : tie.Need-place-of-requires
 place-of-requires c κs = search needs
 
--- src/lent.rt:76:9
 same-length : tie.Need-same-length
 same-length c = search needs
 
--- src/lent.rt:76:9
 returns-2 : tie.Need-returns-2
 returns-2 c =
     let s = c .before .before .before .before .before .before .before in
@@ -61,82 +48,63 @@ returns-2 c =
       kept = λ e. record { output = refl; state-kept = refl };
     }
 
--- src/lent.rt:78:22
 mul-mode : tie.Need-mul-mode
 mul-mode c = search needs
 
--- src/lent.rt:78:22
 add-mode : tie.Need-add-mode
 add-mode c = search needs
 
--- src/lent.rt:78:16
 slice-read-mode : tie.Need-slice-read-mode
 slice-read-mode c = search needs
 
--- src/lent.rt:78:16
 cast-mode : tie.Need-cast-mode
 cast-mode c = let fits = c .slice-known4 .given (10 * c .before .before .place-of .result + 1) in search needs
 
--- src/lent.rt:79:16
 mul-from : tie.Need-mul-from
 mul-from c = search needs
 
--- src/lent.rt:79:16
 add-from : tie.Need-add-from
 add-from c = search needs
 
--- src/lent.rt:80:21
 code-count-requires : tie.Need-code-count-requires
 code-count-requires c κs = search needs
 
--- src/lent.rt:80:14
 add-to : tie.Need-add-to
 add-to c = search needs
 
--- src/lent.rt:81:39
 sub-encode-block : tie.Need-sub-encode-block
 sub-encode-block c = search needs
 
--- src/lent.rt:81:39
 part-encode-block-start : tie.Need-part-encode-block-start
 part-encode-block-start c = search needs
 
--- src/lent.rt:81:39
 part-encode-block-end : tie.Need-part-encode-block-end
 part-encode-block-end c = search needs
 
--- src/lent.rt:81:5
 encode-block-requires : tie.Need-encode-block-requires
 encode-block-requires c κs = search needs
 
--- src/lent.rt:82:5
 remove-requires : tie.Need-remove-requires
 remove-requires c κs = search needs
 
--- src/lent.rt:83:15
 add-own : tie.Need-add-own
 add-own c = search needs
 
--- src/lent.rt:84:18
 slice-read-state : tie.Need-slice-read-state
 slice-read-state c = search needs
 
--- src/lent.rt:84:18
 sub-state : tie.Need-sub-state
 sub-state c =
     let s = c .before .before .before .before .before .before .before .before .before .before .before .before .before .before .before .before .before .before .before .before in
     let kept = c .before .before .before .remove .ensures .beyond (1500 + s .args .depot) (omega arith) in
     omega (arith, kept, s .pre .2)
 
--- src/lent.rt:84:5
 slice-write-state : tie.Need-slice-write-state
 slice-write-state c = search needs
 
--- src/lent.rt:85:20
 sub-state-2 : tie.Need-sub-state-2
 sub-state-2 c = search needs
 
--- src/lent.rt:85:19
 cast-state : tie.Need-cast-state
 cast-state c = search needs
 
@@ -150,35 +118,27 @@ counted c = let own = 1500 + c .before .before .before .before .before .before .
 counted-size : (c : tie.After-slice-known7) → length (counted c) ≡ 1532
 counted-size c = length-set (removed c) (1500 + c .before .before .before .before .before .before .before .before .before .before .before .before .before .before .before .before .before .before .before .before .args .depot) (num (removed c) (1500 + c .before .before .before .before .before .before .before .before .before .before .before .before .before .before .before .before .before .before .before .before .args .depot) - 1) ∙ c .before .before .before .remove .ensures .size
 
--- src/lent.rt:85:5
 slice-write-state-2 : tie.Need-slice-write-state-2
 slice-write-state-2 c = omega (arith, counted-size c)
 
--- src/lent.rt:86:21
 add-state : tie.Need-add-state
 add-state c = search needs
 
--- src/lent.rt:86:19
 cast-state-2 : tie.Need-cast-state-2
 cast-state-2 c = search needs
 
--- src/lent.rt:86:5
 slice-write-state-3 : tie.Need-slice-write-state-3
 slice-write-state-3 c = omega (arith, counted-size c, length-set (counted c) 1530 (filled (c .before .before .before .before .before .before .before .before .before .before .before .before .before .before .before .before .before .before .before .before .args .state .now) - 1))
 
--- src/lent.rt:87:17
 cast-t32 : tie.Need-cast-t32
 cast-t32 c = search needs
 
--- src/lent.rt:66:1
 same-length-2 : tie.Need-same-length-2
 same-length-2 c = search needs
 
--- src/lent.rt:66:1
 same-length-3 : tie.Need-same-length-3
 same-length-3 c = search needs
 
--- src/lent.rt:66:1
 returns-3 : tie.Need-returns-3
 unfolding placeIn isBlock
 returns-3 c =

@@ -6,8 +6,6 @@ use lib.ListN.{length, set, length-set}
 use Rattle.sender.proofs.Bytes.{Coding, coding-start, coding-more, put-end}
 use Rattle.sender.proofs.places.put.Statement.{statement}
 use Rattle.sender.proofs.places.put.Tie as tie
-use Rattle.sender.proofs.places.put.Reads as reads
-use Rattle.sender.proofs.places.put.Lts as lts
 
 abbrev Inv-loop : tie.InvT-loop
 Inv-loop state₀ place depot mode codes q₀ state q = (q ≤ length codes) × Coding state₀ place codes q state
@@ -15,69 +13,54 @@ Inv-loop state₀ place depot mode codes q₀ state q = (q ≤ length codes) × 
 abbrev μ-loop : tie.MeasureT-loop
 μ-loop state₀ place depot mode codes q₀ state q = length codes - q
 
--- src/places.rt:13:5
 loop-holds : tie.Need-loop-holds Inv-loop μ-loop
 loop-holds c = (search needs, coding-start (c .args .state .now) (c .args .place) (c .args .codes .now) (c .pre .0))
 
--- src/places.rt:14:37
 shared-slice-read-state : tie.Need-shared-slice-read-state Inv-loop μ-loop
 shared-slice-read-state c = search needs
 
--- src/places.rt:14:15
 mul-state : tie.Need-mul-state Inv-loop μ-loop
 mul-state c = search needs
 
--- src/places.rt:14:15
 add-state : tie.Need-add-state Inv-loop μ-loop
 add-state c = search needs
 
--- src/places.rt:14:15
 add-state-2 : tie.Need-add-state-2 Inv-loop μ-loop
 add-state-2 c = search needs
 
--- src/places.rt:14:9
 slice-write-state : tie.Need-slice-write-state Inv-loop μ-loop
 slice-write-state c = search needs
 
--- src/places.rt:15:9
 add-q : tie.Need-add-q Inv-loop μ-loop
 add-q c = search needs
 
--- src/places.rt:13:5
 loop-less : tie.Need-loop-less Inv-loop μ-loop
 loop-less c = search needs
 
--- src/places.rt:13:5
 loop-again : tie.Need-loop-again Inv-loop μ-loop
 loop-again c =
     let l = c .before .before .loop in
     let s = c .before .before .before in
     (search needs, coding-more (s .args .state .now) (s .args .place) (s .args .codes .now) (l .q) (l .state) (l .inv .1) (s .pre .1) (omega (arith, s .pre .2, c .before .loop-test .taken)))
 
--- src/places.rt:17:11
 mul-state-2 : tie.Need-mul-state-2 Inv-loop μ-loop
 mul-state-2 c = search needs
 
--- src/places.rt:17:5
 slice-write-state-2 : tie.Need-slice-write-state-2 Inv-loop μ-loop
 slice-write-state-2 c = search needs
 
--- src/places.rt:18:11
 mul-state-3 : tie.Need-mul-state-3 Inv-loop μ-loop
 mul-state-3 c = search needs
 
--- src/places.rt:18:11
 add-state-3 : tie.Need-add-state-3 Inv-loop μ-loop
 add-state-3 c = search needs
 
--- src/places.rt:18:5
 slice-write-state-3 : tie.Need-slice-write-state-3 Inv-loop μ-loop
 slice-write-state-3 c =
     let l = c .before .loop in
     let s = c .before .before in
     omega (arith, length-set (l .state) (10 * s .args .place) (s .args .depot), l .inv .1 .size, s .pre .1)
 
--- src/places.rt:8:1
 same-length : tie.Need-same-length Inv-loop μ-loop
 same-length c =
     let l = c .before .loop in
@@ -85,7 +68,6 @@ same-length c =
     length-set (set (l .state) (10 * s .args .place) (s .args .depot)) (10 * s .args .place + 1) (s .args .mode)
     ∙ length-set (l .state) (10 * s .args .place) (s .args .depot) ∙ l .inv .1 .size ∙ sym (s .pre .0)
 
--- src/places.rt:8:1
 returns : tie.Need-returns Inv-loop μ-loop
 returns c =
     let l = c .before .loop in

@@ -1,12 +1,9 @@
-use mathlib.Core.Path.{_≡_}
 use Prim.Native.Nat.{_*_, _-_}
 use native.Mathlib.Omega.{arith}
 use borrow.Author.Needs.{needs}
-use Rattle.sender.proofs.Bytes.{Moving, moving-start, moving-more, moving-end}
+use Rattle.sender.proofs.Bytes.{Moving, moving-more, moving-end}
 use Rattle.sender.proofs.places.remove.Statement.{statement}
 use Rattle.sender.proofs.places.remove.Tie as tie
-use Rattle.sender.proofs.places.remove.Reads as reads
-use Rattle.sender.proofs.places.remove.Lts as lts
 
 abbrev Inv-loop : tie.InvT-loop
 Inv-loop state₀ at count j₀ state j = Moving at count state₀ state j
@@ -14,54 +11,42 @@ Inv-loop state₀ at count j₀ state j = Moving at count state₀ state j
 abbrev μ-loop : tie.MeasureT-loop
 μ-loop state₀ at count j₀ state j = 10 * count - j
 
--- src/places.rt:51:17
 mul-j : tie.Need-mul-j Inv-loop μ-loop
 mul-j c = search needs
 
--- src/places.rt:52:5
 loop-holds : tie.Need-loop-holds Inv-loop μ-loop
 loop-holds c = search needs
 
--- src/places.rt:52:11
 add-loop : tie.Need-add-loop Inv-loop μ-loop
 add-loop c = search needs
 
--- src/places.rt:52:20
 mul-loop : tie.Need-mul-loop Inv-loop μ-loop
 mul-loop c = search needs
 
--- src/places.rt:53:26
 add-state : tie.Need-add-state Inv-loop μ-loop
 add-state c = search needs
 
--- src/places.rt:53:20
 slice-read-state : tie.Need-slice-read-state Inv-loop μ-loop
 slice-read-state c = search needs
 
--- src/places.rt:53:9
 slice-write-state : tie.Need-slice-write-state Inv-loop μ-loop
 slice-write-state c = search needs
 
--- src/places.rt:54:9
 add-j : tie.Need-add-j Inv-loop μ-loop
 add-j c = search needs
 
--- src/places.rt:52:5
 loop-less : tie.Need-loop-less Inv-loop μ-loop
 loop-less c = search needs
 
--- src/places.rt:52:5
 loop-again : tie.Need-loop-again Inv-loop μ-loop
 loop-again c =
     let l = c .before .before .loop in
     let s = c .before .before .before in
     moving-more (s .args .at) (s .args .count) (s .args .state .now) (l .state) (l .j) (l .inv) (c .before .loop-test .taken) (omega (arith, c .before .loop-test .taken, s .pre .2))
 
--- src/places.rt:47:1
 same-length : tie.Need-same-length Inv-loop μ-loop
 same-length c = search needs
 
--- src/places.rt:47:1
 returns : tie.Need-returns Inv-loop μ-loop
 returns c =
     let s = c .before .before in
