@@ -225,7 +225,8 @@ olivia_located olivia_locate(uint32_t mode, uint32_t width, uint32_t centre, dou
 
 /* A sender with nothing waiting. What follows of handing in and sending holds from a new sender on, each call getting
  * the state that the last one left. Any other state still gets a result, which is left open, but that a call that is
- * refused, or has none waiting, keeps it, and that 1, 5, 6, 17 and 9 are answered as always. */
+ * refused, or has none waiting, keeps it, that 1, 5, 6, 17 and 9 are answered as always, and that the 64 tones of a
+ * block sent are those of some text of its mode. */
 olivia_sender olivia_sender_new(void);
 
 /* A depot, 0 to 29, hands in a block of n codes. Checks 1, 5, 6, 17, 18, 19. Taken with number 0 if the depot has under

@@ -4,16 +4,20 @@ use mathlib.Core.Bool.{Bool, true, false, cond, not}
 use mathlib.Core.List.{List}
 use Prim.Native.Nat.{ℕ, _<_, _≤_}
 use native.Mathlib.Omega.{arith}
-use borrow.Author.Tests.{ltb-false, lt-ltb, le-ltb, eqb-true, eq-eqb, ne-eqb}
+use borrow.Author.Tests.{leb-false, ltb-false, lt-ltb, le-ltb, eqb-true, eq-eqb, ne-eqb}
 use lib.Dec.{ltb, eqb}
 use lib.ListN.{length}
+use Rattle.lists.specs.Lists.{num}
+use Rattle.lists.specs.Places.{first}
+use Rattle.lists.proofs.Places.{first-is}
 use Rattle.refusal.specs.Refused.{refusedAt}
 use Rattle.refusal.specs.Checks.{isMode}
 use Rattle.refusal.specs.declared.Refusal.{Refusal}
-use Rattle.block_encoder.specs.Encoding.{firstBadCode, encodeBlock}
+use Rattle.block_encoder.specs.Encoding.{IsText, badCode, firstBadCode, encodeBlock}
 use Rattle.block_encoder.specs.Checking.{checkCodes}
 use Rattle.block_encoder.specs.declared.Checked.{Checked}
 use Rattle.block_encoder.specs.declared.Checked.the-variants.{Right, Refused}
+use Rattle.block_encoder.specs.declared.Encoded.the-variants as encoded
 use Rattle.block_encoder.specs.declared.Encoded.the-variants.{Tones}
 use Rattle.block_encoder.proofs.EncodeCases.{encodes}
 
@@ -71,3 +75,43 @@ check-case b codes = mode-check (isMode b) refl
 -- such a block is encoded wherever there is room
 pub right-encoded : (b : ℕ) (codes : List ℕ) (room : ℕ) → RightCodes b codes → 64 ≤ room → encodeBlock b codes room ≡ Tones 64
 right-encoded b codes room g h = encodes b codes room (g .mode) (g .count) h (g .below)
+
+-- and only such a block is
+pub encoded-right : (b : ℕ) (codes : List ℕ) (room n : ℕ) → encodeBlock b codes room ≡ Tones n → RightCodes b codes
+unfolding encodeBlock
+encoded-right b codes room n = mode-check (isMode b) refl
+  where
+    code-check : isMode b ≡ true → length codes ≡ b → (t : Bool) → ltb (firstBadCode codes) b ≡ t
+        → cond t (encoded.Refused (refusedAt 6 (firstBadCode codes))) (Tones 64) ≡ Tones n → RightCodes b codes
+    code-check m k true e p = let z : _≡_ {A = ℕ} 0 1 = cc in absurd (omega arith)
+    code-check m k false e p = record { mode = m; count = k; below = ltb-false (firstBadCode codes) b e }
+
+    room-check : isMode b ≡ true → length codes ≡ b → (t : Bool)
+        → cond t (encoded.Refused (refusedAt 9 0)) (cond (ltb (firstBadCode codes) b) (encoded.Refused (refusedAt 6 (firstBadCode codes))) (Tones 64)) ≡ Tones n
+        → RightCodes b codes
+    room-check m k true p = let z : _≡_ {A = ℕ} 0 1 = cc in absurd (omega arith)
+    room-check m k false p = code-check m k (ltb (firstBadCode codes) b) refl p
+
+    count-check : isMode b ≡ true → (t : Bool) → eqb (length codes) b ≡ t
+        → cond (not t) (encoded.Refused (refusedAt 5 0))
+        (cond (ltb room 64) (encoded.Refused (refusedAt 9 0)) (cond (ltb (firstBadCode codes) b) (encoded.Refused (refusedAt 6 (firstBadCode codes))) (Tones 64))) ≡ Tones n
+        → RightCodes b codes
+    count-check m true e p = room-check m (eqb-true (length codes) b e) (ltb room 64) p
+    count-check m false e p = let z : _≡_ {A = ℕ} 0 1 = cc in absurd (omega arith)
+
+    mode-check : (t : Bool) → isMode b ≡ t
+        → cond (not t) (encoded.Refused (refusedAt 1 0))
+        (cond (not (eqb (length codes) b)) (encoded.Refused (refusedAt 5 0))
+        (cond (ltb room 64) (encoded.Refused (refusedAt 9 0)) (cond (ltb (firstBadCode codes) b) (encoded.Refused (refusedAt 6 (firstBadCode codes))) (Tones 64)))) ≡ Tones n
+        → RightCodes b codes
+    mode-check true e p = count-check e (eqb (length codes) b) refl p
+    mode-check false e p = let z : _≡_ {A = ℕ} 0 1 = cc in absurd (omega arith)
+
+pub right-text : (b : ℕ) (codes : List ℕ) → RightCodes b codes → IsText b codes
+right-text b codes g = record {
+  count = g .count;
+  codes = λ q l. leb-false 128 (num codes q) (first-is (badCode codes) (length codes) .lowest q (below q l));
+}
+  where
+    below : (q : ℕ) → q < b → q < first (badCode codes) (length codes)
+    below q l = unfold firstBadCode in omega (arith, g .below)

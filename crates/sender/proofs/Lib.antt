@@ -5,6 +5,7 @@ pub mod Cases
 pub mod Calls
 pub mod PlaceCases
 pub mod Reached
+pub mod RightBlocks
 pub mod Bytes
 pub mod Filled
 pub mod Storing

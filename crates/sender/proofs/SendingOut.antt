@@ -8,6 +8,7 @@ use lib.ListN.{length}
 use Rattle.lists.specs.Lists.{num}
 use Rattle.refusal.specs.declared.Refusal.{Refusal}
 use Rattle.refusal.specs.Refused.{refusedAt}
+use Rattle.block_encoder.proofs.CheckCases.{right-encoded}
 use Rattle.sender.specs.declared.Sent.{Sent}
 use Rattle.sender.specs.declared.Sent.the-variants as sent
 use Rattle.sender.specs.Queues.{Queues, new, waiting, ahead, nextDepot, oldest, sendAnswer, sentBy, tonesBy}
@@ -18,6 +19,7 @@ use Rattle.sender.specs.Internal.{Serves, ServedFrom}
 use Rattle.sender.proofs.Steps.{ahead-ext}
 use Rattle.sender.proofs.Cases.{next-some}
 use Rattle.sender.proofs.Reached.{places-suffice, reached}
+use Rattle.sender.proofs.RightBlocks.{oldest-right}
 
 module _ (q : Queues) (room : ℕ) where
   answers-short : room < 64 → sendAnswer q room ≡ sent.Refused (refusedAt 9 0)
@@ -36,6 +38,12 @@ module _ (q : Queues) (room : ℕ) where
 refused-same : {r x : Refusal} → sent.Refused r ≡ sent.Refused x → x ≡ r
 refused-same e = cc
 
+refused-no-block : {r : Refusal} {d mode : ℕ} → sent.Refused r ≡ sent.Block d mode → ⊥
+refused-no-block e = let z : _≡_ {A = ℕ} 0 1 = cc in omega arith
+
+none-no-block : {d mode : ℕ} → sent.NoneWaiting ≡ sent.Block d mode → ⊥
+none-no-block e = let z : _≡_ {A = ℕ} 0 1 = cc in omega arith
+
 none-unrefused : {x : Refusal} → sent.NoneWaiting ≡ sent.Refused x → ⊥
 none-unrefused e = let z : _≡_ {A = ℕ} 0 1 = cc in omega arith
 
@@ -52,7 +60,7 @@ module _ (state tones : List ℕ) where
       output = λ calls k. refl;
       left = λ calls k. rw (answers-short (run new calls) (length tones) h) k;
     },
-    record { short = λ l. ap sent.Refused p; only = λ x e. refused-same e ∙ p; kept = λ e. unchanged },
+    record { short = λ l. ap sent.Refused p; only = λ x e. refused-same e ∙ p; kept = λ e. unchanged; written = λ d mode e. absurd (refused-no-block e) },
   )
 
   module _ (enough : 64 ≤ length tones) where
@@ -66,7 +74,7 @@ module _ (state tones : List ℕ) where
         output = λ calls k. refl;
         left = λ calls k. rw (answers-none (run new calls) (length tones) enough (none calls k)) k;
       },
-      record { short = λ l. absurd (omega arith); only = λ x e. absurd (none-unrefused e); kept = λ e. unchanged },
+      record { short = λ l. absurd (omega arith); only = λ x e. absurd (none-unrefused e); kept = λ e. unchanged; written = λ d mode e. absurd (none-no-block e) },
     )
 
     pub no-state-sent : (length state ≡ 1532 → ⊥) → SentFrom state tones sent.NoneWaiting tones state × SentFromAny state tones sent.NoneWaiting tones state
@@ -100,7 +108,10 @@ module _ (state tones : List ℕ) where
         serves : Serves (run new calls) (nextDepot (run new calls)) tones answer tones′ next
         serves =
             let p : depot ≡ nextDepot (run new calls) = e ∙ depot-held calls k in
-            rw p at (v .serves (run new calls) k (rw p (next-some (run new calls) found)) (places-suffice (run new calls) (reached calls)))
+            let some = next-some (run new calls) found in
+            rw p at
+            (v .serves (run new calls) k (rw p some) (places-suffice (run new calls) (reached calls))
+            (rw p (right-encoded _ _ (length tones) (oldest-right calls (nextDepot (run new calls)) some) enough)))
 
       pub block-sent : SentFrom state tones answer tones′ next × SentFromAny state tones answer tones′ next
       unfolding tonesBy after sentBy
@@ -110,5 +121,5 @@ module _ (state tones : List ℕ) where
           output = λ calls k. rw (serves calls k .answered) (serves calls k .output);
           left = λ calls k. rw (its-answer calls k) (serves calls k .left);
         },
-        record { short = λ l. absurd (omega arith); only = λ x e. absurd (v .unrefused x e); kept = v .kept },
+        record { short = λ l. absurd (omega arith); only = λ x e. absurd (v .unrefused x e); kept = v .kept; written = v .written },
       )

@@ -9,12 +9,13 @@ use Rattle.lists.specs.Lists.{num}
 use Rattle.lists.specs.Sums.{total}
 use Rattle.lists.specs.Places.{first}
 use Rattle.refusal.specs.declared.Refusal.{Refusal}
-use Rattle.block_encoder.specs.Encoding.{encodedInto}
+use Rattle.block_encoder.specs.declared.Encoded.the-variants.{Tones}
+use Rattle.block_encoder.specs.Encoding.{encodeBlock, encodedInto}
 use Rattle.sender.specs.declared.Sent.{Sent}
 use Rattle.sender.specs.declared.Sent.the-variants as sent
 use Rattle.sender.specs.Queues.{Block, Queues, waiting, oldest, joined, served}
-use Rattle.sender.specs.State.{Holds}
-use Rattle.sender.specs.Sending.{isBlock, Unchanged}
+use Rattle.sender.specs.State.{filled, Holds}
+use Rattle.sender.specs.Sending.{isBlock, Unchanged, WritesText}
 
 -- ---- handing in
 
@@ -47,6 +48,11 @@ pub record Removed (at count : ℕ) (bytes next : List ℕ) : Type 0 where
   pub moved : (j : ℕ) → 10 * at ≤ j → j + 10 < 10 * count → num next j ≡ num bytes (j + 10)
   pub beyond : (j : ℕ) → 1500 ≤ j → num next j ≡ num bytes j
 
+-- the depot's first block has left its queue
+pub record TakenOut (bytes : List ℕ) (depot at : ℕ) (next : List ℕ) : Type 0 where
+  pub left : (q : Queues) → Holds q bytes → 0 < waiting q depot → total 30 (waiting q) ≤ 150 → at ≡ placeWith depot bytes (filled bytes)
+      → Holds (served q depot) next
+
 -- the oldest block of a depot with one is sent
 pub record Serves (q : Queues) (depot : ℕ) (tones : List ℕ) (answer : Sent) (tones′ next : List ℕ) : Type 0 where
   pub answered : answer ≡ sent.Block depot (oldest q depot .mode)
@@ -55,6 +61,8 @@ pub record Serves (q : Queues) (depot : ℕ) (tones : List ℕ) (answer : Sent) 
 
 pub record ServedFrom (bytes : List ℕ) (depot : ℕ) (tones : List ℕ) (answer : Sent) (tones′ next : List ℕ) : Type 0 where
   pub serves : (q : Queues) → Holds q bytes → 0 < waiting q depot → total 30 (waiting q) ≤ 150
+      → encodeBlock (oldest q depot .mode) (oldest q depot .codes) (length tones) ≡ Tones 64
       → Serves q depot tones answer tones′ next
   pub unrefused : (r : Refusal) → answer ≡ sent.Refused r → ⊥
   pub kept : isBlock answer ≡ false → Unchanged bytes tones tones′ next
+  pub written : (d mode : ℕ) → answer ≡ sent.Block d mode → WritesText mode tones tones′

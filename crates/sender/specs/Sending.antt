@@ -5,8 +5,11 @@ use mathlib.Core.Bool.{Bool, true, false}
 use mathlib.Core.List.{List}
 use Prim.Native.Nat.{ℕ, _<_}
 use lib.ListN.{length}
+use Rattle.lists.specs.Lists.{over}
 use Rattle.refusal.specs.declared.Refusal.{Refusal}
 use Rattle.refusal.specs.Refused.{refusedAt}
+use Rattle.chain.specs.Chain.{tonesOf}
+use Rattle.block_encoder.specs.Encoding.{IsText}
 use Rattle.sender.specs.declared.Handed.{Handed}
 use Rattle.sender.specs.declared.Handed.the-variants as handed
 use Rattle.sender.specs.declared.Sent.{Sent}
@@ -47,8 +50,16 @@ pub record Unchanged (state tones tones′ next : List ℕ) : Type 0 where
   pub output : tones′ ≡ tones
   pub state-kept : next ≡ state
 
--- of every state: 9 comes first and is the only refusal, and a refused call, and one with none waiting, changes nothing
+-- what is written are the tones of some text of the mode
+pub record WritesText (mode : ℕ) (tones tones′ : List ℕ) : Type 0 where
+  pub codes : List ℕ
+  pub text : IsText mode codes
+  pub output : tones′ ≡ over (tonesOf mode codes) tones
+
+-- of every state: 9 comes first and is the only refusal; a refused call, and one with none waiting, changes nothing; and what is answered as
+-- sent was written
 pub record SentFromAny (state tones : List ℕ) (answer : Sent) (tones′ next : List ℕ) : Type 0 where
   pub short : length tones < 64 → answer ≡ sent.Refused (refusedAt 9 0)
   pub only : (r : Refusal) → answer ≡ sent.Refused r → r ≡ refusedAt 9 0
   pub kept : isBlock answer ≡ false → Unchanged state tones tones′ next
+  pub written : (d mode : ℕ) → answer ≡ sent.Block d mode → WritesText mode tones tones′

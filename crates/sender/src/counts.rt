@@ -1,4 +1,5 @@
 // What the counts of waiting blocks decide: whether a depot may hand in a block, and which is served next.
+use super::COUNTS;
 use super::Handed;
 use block_encoder::Checked;
 use refusal::Refusal;
@@ -26,7 +27,7 @@ fn reserved(state: &[u8]) -> u32
     let mut sum: u32 = 0;
     let mut d: usize = 0;
     while d < 30 {
-        sum += share(state[1500 + d]);
+        sum += share(state[COUNTS + d]);
         d += 1;
     }
     sum
@@ -41,7 +42,7 @@ fn place(state: &[u8], depot: u32) -> Handed
         return Handed::Refused(Refusal::at(refusal::DEPOT, 0));
     }
     let d = depot as usize;
-    let own = state[1500 + d];
+    let own = state[COUNTS + d];
     if 8 <= own {
         return Handed::Refused(Refusal::at(refusal::DEPOT_FULL, d));
     }
@@ -69,7 +70,7 @@ pub fn ahead(state: &[u8], turn: usize) -> usize
 {
     let mut k: usize = 0;
     while k < 30 {
-        if 0 < state[1500 + (turn + k) % 30] {
+        if 0 < state[COUNTS + (turn + k) % 30] {
             return k;
         }
         k += 1;

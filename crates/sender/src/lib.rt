@@ -21,9 +21,18 @@ pub enum Sent {
     Refused(Refusal),
 }
 
-// The state of a sender, in bytes. First 150 places of 10: a waiting block's depot, its mode and up to 8 codes. Then how many blocks each
-// depot has waiting, how many places are filled, and the depot that the next send looks at first. The filled places come first, in the order in
-// which the blocks were handed in.
+// Where the parts of a state begin, after 150 places of 10 bytes: the depots' counts, the count of filled places, and the turn.
+const COUNTS: usize = 1500;
+
+const FILLED: usize = 1530;
+
+const TURN: usize = 1531;
+// The size of a state.
+const SIZE: usize = 1532;
+
+// The state of a sender, in bytes. A place is a waiting block's depot, its mode and up to 8 codes. The filled places come first, in the order
+// in which the blocks were handed in. Behind the places stands how many blocks each depot has waiting, how many places are filled, and the
+// depot that the next send looks at first.
 #[repr(C)]
 pub struct Sender {
     pub bytes: [u8; 1532],

@@ -38,7 +38,7 @@ add-serve c = search needs
 serve-requires : tie.Need-serve-requires
 serve-requires c κs =
     let a = c .before .before .before in
-    (search needs, search needs, rw (a .ahead .ensures) (ahead-some _ _ (rw (a .ahead .ensures) at (c .before .before .if3 .left))))
+    (search needs, search needs, rw (a .ahead .ensures) (ahead-some _ _ (rw (a .ahead .ensures) at (c .before .before .if3 .left))), search needs)
 
 same-length-2 : tie.Need-same-length-2
 same-length-2 c = search needs

@@ -1,16 +1,18 @@
 use mathlib.Core.Path.{_≡_, refl, sym, _∙_, ap}
 use mathlib.Core.List.{List}
-use Prim.Native.Nat.{ℕ, _+_, _*_, _-_}
+use Prim.Native.Nat.{ℕ, _+_, _-_, _*_}
 use native.Mathlib.Omega.{arith}
-use lib.ListN.{length, set, length-set}
+use lib.ListN.{length, take, drop}
 use Rattle.lists.specs.Lists.{num}
-use Rattle.block_encoder.specs.Encoding.{encodedInto}
+use Rattle.block_encoder.specs.Encoding.{encodeBlock, encodedInto}
+use Rattle.block_encoder.proofs.EncodeCases.{tones-kept, tones-written}
+use Rattle.block_encoder.proofs.CheckCases.{encoded-right, right-text}
 use Rattle.sender.specs.declared.Sent.the-variants as sent
 use Rattle.sender.specs.Queues.{Block}
-use Rattle.sender.specs.State.{placeIn, filled}
+use Rattle.sender.specs.State.{placeIn}
 use Rattle.sender.specs.Sending.{isBlock}
 use Rattle.sender.proofs.Filled.{part-codes}
-use Rattle.sender.proofs.Serving.{places-fit, place-there, oldest-there, served-holds}
+use Rattle.sender.proofs.Serving.{places-fit, place-there, oldest-there}
 use borrow.Author.Needs.{needs}
 use Rattle.sender.proofs.lent.serve.Statement.{statement}
 use Rattle.sender.proofs.lent.serve.Tie as tie
@@ -25,9 +27,10 @@ returns : tie.Need-returns
 returns c =
     let s = c .before .before .before .before in
     record {
-      serves = λ q h some few. absurd (omega (arith, places-fit q (s .args .state .now) (s .args .depot) h (s .pre .1) some few, c .if1 .taken));
+      serves = λ q h some few ok. absurd (omega (arith, places-fit q (s .args .state .now) (s .args .depot) h (s .pre .1) some few, c .if1 .taken));
       unrefused = λ r e. let z : _≡_ {A = ℕ} 0 1 = cc in omega arith;
       kept = λ e. record { output = refl; state-kept = refl };
+      written = λ d mode e. let z : _≡_ {A = ℕ} 0 1 = cc in absurd (omega arith);
     }
 
 cast-place-of : tie.Need-cast-place-of
@@ -43,9 +46,11 @@ returns-2 : tie.Need-returns-2
 returns-2 c =
     let s = c .before .before .before .before .before .before .before in
     record {
-      serves = λ q h some few. absurd (omega (arith, place-there q (s .args .state .now) (s .args .depot) h (s .pre .1) some few, c .before .place-of .ensures, c .if2 .taken));
+      serves = λ q h some few ok.
+          absurd (omega (arith, place-there q (s .args .state .now) (s .args .depot) h (s .pre .1) some few, c .before .place-of .ensures, c .if2 .taken));
       unrefused = λ r e. let z : _≡_ {A = ℕ} 0 1 = cc in omega arith;
       kept = λ e. record { output = refl; state-kept = refl };
+      written = λ d mode e. let z : _≡_ {A = ℕ} 0 1 = cc in absurd (omega arith);
     }
 
 mul-mode : tie.Need-mul-mode
@@ -84,54 +89,17 @@ part-encode-block-end c = search needs
 encode-block-requires : tie.Need-encode-block-requires
 encode-block-requires c κs = search needs
 
-remove-requires : tie.Need-remove-requires
-remove-requires c κs = search needs
+enum-told : tie.Need-enum-told
+enum-told c = search needs
 
-add-own : tie.Need-add-own
-add-own c = search needs
+take-out-requires : tie.Need-take-out-requires
+take-out-requires c κs = search needs
 
-slice-read-state : tie.Need-slice-read-state
-slice-read-state c = search needs
+cast-t27 : tie.Need-cast-t27
+cast-t27 c = search needs
 
-sub-state : tie.Need-sub-state
-sub-state c =
-    let s = c .before .before .before .before .before .before .before .before .before .before .before .before .before .before .before .before .before .before .before .before in
-    let kept = c .before .before .before .remove .ensures .beyond (1500 + s .args .depot) (omega arith) in
-    omega (arith, kept, s .pre .2)
-
-slice-write-state : tie.Need-slice-write-state
-slice-write-state c = search needs
-
-sub-state-2 : tie.Need-sub-state-2
-sub-state-2 c = search needs
-
-cast-state : tie.Need-cast-state
-cast-state c = search needs
-
--- the state without the block's place, and with the depot's count
-abbrev removed : (c : tie.After-slice-known7) → List ℕ
-removed c = c .before .before .before .remove .last .0
-
-abbrev counted : (c : tie.After-slice-known7) → List ℕ
-counted c = let own = 1500 + c .before .before .before .before .before .before .before .before .before .before .before .before .before .before .before .before .before .before .before .before .args .depot in set (removed c) own (num (removed c) own - 1)
-
-counted-size : (c : tie.After-slice-known7) → length (counted c) ≡ 1532
-counted-size c = length-set (removed c) (1500 + c .before .before .before .before .before .before .before .before .before .before .before .before .before .before .before .before .before .before .before .before .args .depot) (num (removed c) (1500 + c .before .before .before .before .before .before .before .before .before .before .before .before .before .before .before .before .before .before .before .before .args .depot) - 1) ∙ c .before .before .before .remove .ensures .size
-
-slice-write-state-2 : tie.Need-slice-write-state-2
-slice-write-state-2 c = omega (arith, counted-size c)
-
-add-state : tie.Need-add-state
-add-state c = search needs
-
-cast-state-2 : tie.Need-cast-state-2
-cast-state-2 c = search needs
-
-slice-write-state-3 : tie.Need-slice-write-state-3
-slice-write-state-3 c = omega (arith, counted-size c, length-set (counted c) 1530 (filled (c .before .before .before .before .before .before .before .before .before .before .before .before .before .before .before .before .before .before .before .before .args .state .now) - 1))
-
-cast-t32 : tie.Need-cast-t32
-cast-t32 c = search needs
+enum-told-2 : tie.Need-enum-told-2
+enum-told-2 c = search needs
 
 same-length-2 : tie.Need-same-length-2
 same-length-2 c = search needs
@@ -139,25 +107,74 @@ same-length-2 c = search needs
 same-length-3 : tie.Need-same-length-3
 same-length-3 c = search needs
 
+-- the mode and the codes of the place, as the encoder gets them
+abbrev its-mode : (c : tie.After-encode-block) → ℕ
+its-mode c = num (c .before .before .before .before .before .before .before .before .before .before .before .before .before .args .state .now) (10 * c .before .before .before .before .before .before .before .place-of .result + 1)
+
+abbrev its-codes : (c : tie.After-encode-block) → List ℕ
+its-codes c =
+    let from = 10 * c .before .before .before .before .before .before .before .place-of .result + 2 in
+    take (from + c .before .before .before .before .code-count .result - from) (drop from (c .before .before .before .before .before .before .before .before .before .before .before .before .before .args .state .now))
+
+codes-placed : (c : tie.After-encode-block) → its-codes c ≡ placeIn (c .before .before .before .before .before .before .before .before .before .before .before .before .before .args .state .now) (c .before .before .before .before .before .before .before .place-of .result) .block .codes
+codes-placed c =
+    part-codes (c .before .before .before .before .before .before .before .before .before .before .before .before .before .args .state .now) (c .before .before .before .before .before .before .before .place-of .result) (c .before .before .before .before .code-count .result)
+    (omega (arith, c .before .before .before .before .before .before .before .before .before .before .before .before .before .pre .0, c .before .before .before .before .before .before .if2 .left, c .before .before .before .before .before .before .before .before .before .if1 .left)) (c .before .before .before .before .code-count .ensures)
+
 returns-3 : tie.Need-returns-3
 unfolding placeIn isBlock
 returns-3 c =
-    let s = c .before .before .before .before .before .before .before .before .before .before .before .before .before .before .before .before .before .before .before .before in
-    let p = c .before .before .before .before .before .before .before .before .before .before .before .before .before .before .place-of in
+    let s = c .before .before .before .before .before .before .before .before .before .before .before .before .before .before .before .before .before .before .before .before .before in
+    let p = c .before .before .before .before .before .before .before .before .before .before .before .before .before .before .before .place-of in
+    let enc = c .before .before .before .before .before .before .before .before in
+    let accepted = sym (enc .encode-block .ensures .0) ∙ c .before .before .before .before .enum-told .given .1 in
     record {
-      serves = λ q h some few.
+      serves = λ q h some few ok.
           let o = oldest-there q (s .args .state .now) (s .args .depot) h (s .pre .1) some few (p .result) (p .ensures) in
           record {
             answered = ap (λ (b : Block). sent.Block (s .args .depot) (b .mode)) (sym o);
             output =
-                c .before .before .before .before .before .before .before .encode-block .ensures .1
-                ∙ ap (λ (codes : List ℕ). encodedInto (num (s .args .state .now) (10 * p .result + 1)) codes (s .args .tones .now))
-                (part-codes (s .args .state .now) (p .result) _ (omega (arith, s .pre .0, c .before .before .before .before .before .before .before .before .before .before .before .before .before .if2 .left, c .before .before .before .before .before .before .before .before .before .before .before .before .before .before .before .before .if1 .left)) (c .before .before .before .before .before .before .before .before .before .before .before .code-count .ensures))
+                enc .encode-block .ensures .1
+                ∙ ap (λ (codes : List ℕ). encodedInto (its-mode enc) codes (s .args .tones .now)) (codes-placed enc)
                 ∙ ap (λ (b : Block). encodedInto (b .mode) (b .codes) (s .args .tones .now)) (sym o);
-            left = served-holds q (s .args .state .now) (s .args .depot) h (s .pre .1) some few (p .result) (p .ensures) (removed c) (c .before .before .before .remove .ensures);
+            left = c .before .before .take-out .ensures .left q h some few (p .ensures);
           };
       unrefused = λ r e. let z : _≡_ {A = ℕ} 0 1 = cc in omega arith;
       kept = λ e. let z : _≡_ {A = ℕ} 0 1 = cc in absurd (omega arith);
+      written = λ d mode e.
+          let m : its-mode enc ≡ mode = cc in
+          rw (← m)
+          (record {
+            codes = its-codes enc;
+            text = right-text (its-mode enc) (its-codes enc) (encoded-right _ _ _ _ accepted);
+            output = enc .encode-block .ensures .1 ∙ tones-written _ _ _ accepted;
+          });
+    }
+
+same-length-4 : tie.Need-same-length-4
+same-length-4 c = search needs
+
+same-length-5 : tie.Need-same-length-5
+same-length-5 c = search needs
+
+returns-4 : tie.Need-returns-4
+unfolding placeIn
+returns-4 c =
+    let s = c .before .before .before .before .before .before .before .before .before .before .before .before .before .before .before .before .before in
+    let p = c .before .before .before .before .before .before .before .before .before .before .before .place-of in
+    let enc = c .before .before .before .before in
+    let refused = sym (enc .encode-block .ensures .0) ∙ c .enum-told2 .given .1 in
+    record {
+      serves = λ q h some few ok.
+          let o = oldest-there q (s .args .state .now) (s .args .depot) h (s .pre .1) some few (p .result) (p .ensures) in
+          let same =
+          ap (λ (codes : List ℕ). encodeBlock (its-mode enc) codes (length (s .args .tones .now))) (codes-placed enc)
+          ∙ ap (λ (b : Block). encodeBlock (b .mode) (b .codes) (length (s .args .tones .now))) (sym o) ∙ ok in
+          let z : _≡_ {A = ℕ} 0 1 = cc in
+          absurd (omega arith);
+      unrefused = λ r e. let z : _≡_ {A = ℕ} 0 1 = cc in omega arith;
+      kept = λ e. record { output = enc .encode-block .ensures .1 ∙ tones-kept _ _ _ refused; state-kept = refl };
+      written = λ d mode e. let z : _≡_ {A = ℕ} 0 1 = cc in absurd (omega arith);
     }
 
 pub serve-spec : {M : Type 1} → statement M
@@ -183,18 +200,13 @@ serve-spec =
     part-encode-block-start
     part-encode-block-end
     encode-block-requires
-    remove-requires
-    add-own
-    slice-read-state
-    sub-state
-    slice-write-state
-    sub-state-2
-    cast-state
-    slice-write-state-2
-    add-state
-    cast-state-2
-    slice-write-state-3
-    cast-t32
+    enum-told
+    take-out-requires
+    cast-t27
+    enum-told-2
     same-length-2
     same-length-3
-    returns-3)
+    returns-3
+    same-length-4
+    same-length-5
+    returns-4)
