@@ -94,8 +94,25 @@ pub struct Energies {
     pub sums: [u32; 8],
 }
 
+/// The state of a sender. The caller keeps it, and lends it to each call.
+#[repr(C)]
+#[derive(Clone, Copy, Debug, PartialEq, Eq)]
+pub struct Sender {
+    pub bytes: [u8; 1532],
+}
+
+/// Number 0: if `count` is 64, a block of this depot was sent, in this mode; if it is 0, none waits.
+#[repr(C)]
+#[derive(Clone, Copy, Debug, Default, PartialEq, Eq)]
+pub struct Sent {
+    pub answer: Answer,
+    pub depot: u32,
+    pub mode: u32,
+}
+
 mod c {
-    use super::{Answer, Block, Energies, Found, Hertz, Located, Looked, Trial, WeightedTrial};
+    use super::WeightedTrial;
+    use super::{Answer, Block, Energies, Found, Hertz, Located, Looked, Sender, Sent, Trial};
 
     extern "C" {
         pub fn olivia_encode_block(
@@ -187,6 +204,15 @@ mod c {
             weights: *const u8,
             weights_n: usize,
         ) -> Energies;
+        pub fn olivia_sender_new() -> Sender;
+        pub fn olivia_hand_in(
+            sender: *mut Sender,
+            depot: u32,
+            mode: u32,
+            codes: *const u8,
+            n: usize,
+        ) -> Answer;
+        pub fn olivia_send(sender: *mut Sender, tones: *mut u16, room: usize) -> Sent;
     }
 }
 
@@ -335,4 +361,17 @@ pub fn energy(mode: u32, tones: &[u16]) -> Energies {
 pub fn weighted_energy(mode: u32, tones: &[u16], weights: &[u8]) -> Energies {
     let (from, count) = (start(weights), weights.len());
     unsafe { c::olivia_weighted_energy(mode, start(tones), tones.len(), from, count) }
+}
+
+pub fn sender_new() -> Sender {
+    unsafe { c::olivia_sender_new() }
+}
+
+pub fn hand_in(sender: &mut Sender, depot: u32, mode: u32, codes: &[u8]) -> Answer {
+    unsafe { c::olivia_hand_in(sender, depot, mode, start(codes), codes.len()) }
+}
+
+pub fn send(sender: &mut Sender, tones: &mut [u16]) -> Sent {
+    let (to, room) = (start_mut(tones), tones.len());
+    unsafe { c::olivia_send(sender, to, room) }
 }

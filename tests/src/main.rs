@@ -3,15 +3,15 @@
 
 mod groups;
 
-use groups::{cases, compare, demand3, energies, finding, listing, plain, raising, range, records};
-use groups::{sheet, tuning, vectors, weight0, weighted, weights, words, Report};
+use groups::{cases, compare, demand3, energies, finding, listing, plain, queues, raising, range};
+use groups::{records, sheet, tuning, vectors, weight0, weighted, weights, words, Report};
 use olivia_tests::paper;
 use std::io::{self, Read, Write};
 use std::process::ExitCode;
 
 type Group = (&'static str, fn() -> Report);
 
-const GROUPS: [Group; 17] = [
+const GROUPS: [Group; 18] = [
     ("vectors", vectors::run),
     ("words", words::run),
     ("sheet", sheet::run),
@@ -22,6 +22,7 @@ const GROUPS: [Group; 17] = [
     ("energies", energies::run),
     ("raising", raising::run),
     ("tuning", tuning::run),
+    ("queues", queues::run),
     ("cases", cases::run),
     ("compare", compare::run),
     ("plain", plain::run),

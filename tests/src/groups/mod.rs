@@ -10,6 +10,7 @@ mod heard;
 mod lent;
 pub mod listing;
 pub mod plain;
+pub mod queues;
 pub mod raising;
 pub mod range;
 mod receivers;

@@ -1,5 +1,5 @@
-//! Document 01 ("Olivia text link: from characters to tones and back"), with orders 1 to 5 and 13 of document 02, written down
-//! a second time, to hold the library and the listing program against.
+//! Document 01 ("Olivia text link: from characters to tones and back"), with orders 1 to 5, 7 and 13 of document 02, written
+//! down a second time, to hold the library and the listing program against.
 //!
 //! Each function quotes the rule that it is. Nothing here is fast or shared with the library: a correlation is a sum over 64
 //! places, and the symbol of a tone is searched for. A function hands back what an entry has to write; `room` is the length of the
@@ -13,6 +13,7 @@ mod frequencies;
 mod hearing;
 mod listing;
 mod messages;
+mod queues;
 mod range;
 mod refusals;
 mod sending;
@@ -28,6 +29,7 @@ pub use frequencies::{frequency, WIDTHS};
 pub use hearing::{correlations, decode_block, symbol_of, Character, Heard, PLAIN};
 pub use listing::listed;
 pub use messages::{decode_message, encode_message};
+pub use queues::{Block, Sender, Sent, DEPOTS, KEPT, MOST_WAITING, PLACES};
 pub use range::{check_tones, Looked};
 pub use refusals::Refusal;
 pub use sending::{

@@ -7,6 +7,7 @@ mod find;
 pub mod frequency;
 mod locate;
 pub mod message;
+mod queue;
 pub mod range;
 mod records;
 mod tally;
@@ -82,6 +83,7 @@ pub fn run() -> Report {
     many::<energy::Plain>(&mut random, &mut tally, 20_000)?;
     many::<energy::Weighted>(&mut random, &mut tally, 20_000)?;
     many::<locate::Locate>(&mut random, &mut tally, 60_000)?;
+    many::<queue::HandInAndSend>(&mut random, &mut tally, 10_000)?;
     tally.expect_every_refusal()?;
     tally.expect_every_kind()?;
     Ok(tally.lines())

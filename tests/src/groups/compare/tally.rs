@@ -7,8 +7,10 @@ use std::collections::BTreeMap;
 /// Modes that every function has to meet.
 pub const MODES: [u32; 13] = [1, 2, 3, 4, 5, 6, 7, 8, 0, 9, 16, 24, u32::MAX];
 
-/// The refusals of document 01, and those of orders 1, 3 and 4 of document 02.
-const REFUSALS: [u32; 16] = [1, 2, 3, 4, 5, 6, 7, 8, 9, 10, 11, 12, 13, 14, 15, 16];
+/// The refusals of document 01, and those of orders 1, 3, 4 and 7 of document 02.
+const REFUSALS: [u32; 19] = [
+    1, 2, 3, 4, 5, 6, 7, 8, 9, 10, 11, 12, 13, 14, 15, 16, 17, 18, 19,
+];
 
 /// Each kind of record, each order of two checks and each other outcome is met at least so often.
 const OFTEN: usize = 100;
