@@ -32,6 +32,9 @@ static_assert(offsetof(olivia_energies, number) == 0 && offsetof(olivia_energies
                   offsetof(olivia_energies, total) == 8 && offsetof(olivia_energies, sums) == 12 &&
                   sizeof(olivia_energies) == 44,
               "eleven numbers of 32 bits");
+static_assert(sizeof(olivia_sender) == 150 * 10 + 30 + 2, "150 places of ten bytes, 30 counts, one more, and the turn");
+static_assert(offsetof(olivia_sent, depot) == 16 && offsetof(olivia_sent, mode) == 20 && sizeof(olivia_sent) == 24,
+              "an answer and two numbers");
 
 static int cases, failures;
 
@@ -350,6 +353,71 @@ static void energies(void)
     check("the same with weights", adds_nothing(olivia_weighted_energy(3, tones, TONES, weights, TONES), 8, 40));
 }
 
+static int takes(olivia_sender *sender, uint32_t depot, uint32_t mode, const uint8_t *codes)
+{
+    return is(olivia_hand_in(sender, depot, mode, codes, mode), 0, 0, 0, 0);
+}
+
+/* The block is refused so, and the state stays as it was. */
+static int refuses(olivia_sender *sender, uint32_t depot, uint32_t mode, const uint8_t *codes, size_t n, uint32_t number,
+                   uint32_t place)
+{
+    const olivia_sender before = *sender;
+    const olivia_answer answer = olivia_hand_in(sender, depot, mode, codes, n);
+
+    return is(answer, number, place, 0, 0) && memcmp(sender, &before, sizeof before) == 0;
+}
+
+static int sends(olivia_sender *sender, uint16_t *tones, uint32_t depot, uint32_t mode)
+{
+    const olivia_sent sent = olivia_send(sender, tones, TONES);
+
+    return is(sent.answer, 0, 0, 0, TONES) && sent.depot == depot && sent.mode == mode;
+}
+
+/* Nothing is sent, refused so or with none waiting, and the state stays as it was. */
+static int sends_nothing(olivia_sender *sender, uint16_t *tones, size_t room, uint32_t number)
+{
+    const olivia_sender before = *sender;
+    const olivia_sent sent = olivia_send(sender, tones, room);
+
+    return is(sent.answer, number, 0, 0, 0) && sent.depot == 0 && sent.mode == 0 &&
+           memcmp(sender, &before, sizeof before) == 0;
+}
+
+/* Depot 29 hands in two blocks, and depot 0 one, which is served first. */
+static void senders(void)
+{
+    const uint8_t text[8] = {'4', '0', '7', '1', '3', 0, 64, 127}, wrong[2] = {0, 128};
+    olivia_sender sender = olivia_sender_new();
+    uint16_t tones[TONES], wanted[TONES];
+    int taken = 0;
+
+    check("none waiting", sends_nothing(&sender, NULL, 0, 9) && sends_nothing(&sender, tones, TONES, 0));
+    check("two blocks of depot 29", takes(&sender, 29, 8, text) && takes(&sender, 29, 1, text));
+    check("a block of depot 0", takes(&sender, 0, 5, text));
+    check("three places filled", sender.bytes[1530] == 3 && sender.bytes[1500] == 1 && sender.bytes[1500 + 29] == 2);
+    check("a block of depot 30", refuses(&sender, 30, 5, text, 5, 17, 0));
+    check("code 128 handed in", refuses(&sender, 30, 2, wrong, 2, 6, 1));
+    check("no codes handed in", refuses(&sender, 0, 5, NULL, 0, 5, 0));
+    check("a block of mode 9", refuses(&sender, 0, 9, text, 8, 1, 0));
+    check("an output of 63 tones", sends_nothing(&sender, tones, TONES - 1, 9));
+    check("depot 0 served", sends(&sender, tones, 0, 5));
+    olivia_encode_block(5, text, 5, wanted, TONES);
+    check("its tones", memcmp(tones, wanted, sizeof wanted) == 0);
+    check("depot 29 served", sends(&sender, tones, 29, 8));
+    olivia_encode_block(8, text, 8, wanted, TONES);
+    check("the tones of its first block", memcmp(tones, wanted, sizeof wanted) == 0);
+    check("depot 29 served again", sends(&sender, tones, 29, 1) && sends_nothing(&sender, tones, TONES, 0));
+
+    for (uint32_t block = 0; block < 7 * 8 + 6; block++)
+        taken += takes(&sender, block / 8, 1, text);
+    check("8 blocks of each of depots 0 to 6, and 6 of depot 7", taken == 7 * 8 + 6);
+    check("a ninth block", refuses(&sender, 6, 1, text, 1, 18, 6));
+    check("a seventh block where the sum is 150", refuses(&sender, 7, 6, text, 6, 19, 7));
+    check("a first block there", takes(&sender, 8, 2, text));
+}
+
 int main(void)
 {
     blocks();
@@ -362,6 +430,7 @@ int main(void)
     weights();
     weighted_trials();
     energies();
+    senders();
     printf("header: %d cases\n", cases);
     return failures != 0;
 }
