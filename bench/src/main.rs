@@ -1,5 +1,7 @@
-//! The library against document 01 written down plainly: blocks a second, for each mode, as a table in Markdown.
+//! The library against document 01 written down plainly: blocks a second, for each mode, as a table in Markdown. Then, beside encoding a
+//! block, handing one to a sender and sending one: nanoseconds, with few blocks waiting and with many.
 
+use olivia_tests::library::Sender;
 use olivia_tests::random::Random;
 use olivia_tests::{library, paper};
 use std::hint::black_box;
@@ -18,6 +20,10 @@ const MESSAGE_ROOM: usize = paper::LONGEST_MESSAGE + 8;
 const REPLACED: usize = 4;
 const MISSING: usize = 6;
 
+/// The modes of blocks that are handed to a sender, and how many wait before one is.
+const QUEUED_MODES: [usize; 3] = [1, 5, 8];
+const WAITING: [usize; 2] = [0, 149];
+
 /// Short rounds and many, the two sides in turn, so that the best of each is one in which nothing else ran.
 const ROUNDS: usize = 120;
 const ROUND: Duration = Duration::from_millis(2);
@@ -30,6 +36,17 @@ fn main() {
         let work = Work::new(b);
         let cells = [work.encode(), work.decode(), work.message()].map(Rates::cells);
         println!("| {b} | {} |", cells.join(" | "));
+    }
+    println!("\nNanoseconds; a block handed in and one sent are to take at most 3 times those of encoding one.\n");
+    println!("| mode | waiting | encode | hand-in and send | ratio |");
+    println!("|---|---|---|---|---|");
+    for b in QUEUED_MODES {
+        let work = Work::new(b);
+        for waiting in WAITING {
+            let [encode, queue] = work.queue(waiting).map(|rate| 1e9 / rate);
+            let ratio = queue / encode;
+            println!("| {b} | {waiting} | {encode:.0} | {queue:.0} | {ratio:.2} |");
+        }
     }
 }
 
@@ -62,12 +79,7 @@ impl Work {
 
     fn encode(&self) -> Rates {
         let mut tones = [0; paper::SYMBOLS];
-        let library = || {
-            for text in &self.texts {
-                let answer = library::encode_block(self.mode, black_box(text), &mut tones);
-                assert_eq!(black_box(answer).number, 0);
-            }
-        };
+        let library = || self.encode_texts(&mut tones);
         let paper = || {
             for text in &self.texts {
                 let tones = paper::encode_block(self.mode, black_box(text), paper::SYMBOLS);
@@ -75,6 +87,37 @@ impl Work {
             }
         };
         Rates::best(BLOCKS, library, paper)
+    }
+
+    fn encode_texts(&self, tones: &mut [u16]) {
+        for text in &self.texts {
+            let answer = library::encode_block(self.mode, black_box(text), tones);
+            assert_eq!(black_box(answer).number, 0);
+        }
+    }
+
+    /// Blocks a second that are encoded, and that are handed in and sent where so many wait: each depot hands in in its turn.
+    fn queue(&self, waiting: usize) -> [f64; 2] {
+        let (mut encoded, mut sent) = ([0; paper::SYMBOLS], [0; paper::SYMBOLS]);
+        let mut depots = (0..paper::DEPOTS as u32).cycle();
+        let mut hand_in = |sender: &mut Sender, text: &[u8]| {
+            let depot = depots.next().expect("depots go round");
+            let answer = library::hand_in(sender, depot, self.mode, text);
+            assert_eq!(black_box(answer).number, 0);
+        };
+        let mut sender = library::sender_new();
+        for text in self.texts.iter().cycle().take(waiting) {
+            hand_in(&mut sender, text);
+        }
+        let encode = || self.encode_texts(&mut encoded);
+        let queue = || {
+            for text in &self.texts {
+                hand_in(&mut sender, black_box(text));
+                let answer = library::send(&mut sender, &mut sent);
+                assert_eq!(black_box(answer).answer.count, 64);
+            }
+        };
+        best(BLOCKS, encode, queue)
     }
 
     fn decode(&self) -> Rates {
@@ -131,17 +174,9 @@ struct Rates {
 }
 
 impl Rates {
-    /// The best rounds, where a call of either side is so many blocks.
-    fn best(blocks: usize, mut library: impl FnMut(), mut paper: impl FnMut()) -> Self {
-        let mut best = Rates {
-            library: 0.0,
-            paper: 0.0,
-        };
-        for _ in 0..ROUNDS {
-            best.library = best.library.max(round(blocks, &mut library));
-            best.paper = best.paper.max(round(blocks, &mut paper));
-        }
-        best
+    fn best(blocks: usize, library: impl FnMut(), paper: impl FnMut()) -> Self {
+        let [library, paper] = best(blocks, library, paper);
+        Rates { library, paper }
     }
 
     fn cells(self) -> String {
@@ -152,6 +187,16 @@ impl Rates {
             grouped(self.paper)
         )
     }
+}
+
+/// Blocks a second of two sides in their best rounds, where a call of either is so many blocks.
+fn best(blocks: usize, mut one: impl FnMut(), mut other: impl FnMut()) -> [f64; 2] {
+    let mut best = [0.0_f64; 2];
+    for _ in 0..ROUNDS {
+        best[0] = best[0].max(round(blocks, &mut one));
+        best[1] = best[1].max(round(blocks, &mut other));
+    }
+    best
 }
 
 fn round(blocks: usize, work: &mut impl FnMut()) -> f64 {

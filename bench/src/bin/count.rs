@@ -1,8 +1,9 @@
 //! Calls the library so many times on one input, for a tool that counts instructions: `count WORK MODE TIMES`, where WORK is
 //! `encode`, `decode`, `weighted`, `message`, `find`, `find-long`, `energy`, `weighted-energy`, `locate`, `locate-outside`,
-//! `frequency`, `bad-first`, `bad-last`, `check` or `check-long`. What is located is 1,000 inputs in turn.
+//! `frequency`, `bad-first`, `bad-last`, `check`, `check-long`, `hand-in`, `hand-in-149`, `refused-18`, `refused-19`, `send`,
+//! `send-far`, `send-150`, `send-late` or `copy`. What is located is 1,000 inputs in turn.
 
-use olivia_tests::library;
+use olivia_tests::library::{self, Sender};
 use olivia_tests::random::Random;
 use std::hint::black_box;
 use std::process::ExitCode;
@@ -23,6 +24,10 @@ const SEED: u64 = 1;
 const WIDTH: u32 = 1000;
 const CENTRE: u32 = 1500;
 const MEASUREMENTS: usize = 1000;
+
+/// The depot of the highest number, and the places of a sender.
+const LAST_DEPOT: u32 = 29;
+const PLACES: usize = 150;
 
 fn main() -> ExitCode {
     let words: Vec<String> = std::env::args().skip(1).collect();
@@ -62,6 +67,23 @@ fn tune(work: &str, mode: u32, times: u32) -> ExitCode {
         "locate" => locate(mode, times, &[1000.0], 0),
         "locate-outside" => locate(mode, times, &[0.0, 2000.0], 16),
         "frequency" => frequency(mode, times),
+        _ => return queue(work, mode, times),
+    }
+    ExitCode::SUCCESS
+}
+
+/// The works of a sender, with few blocks waiting and with many.
+fn queue(work: &str, mode: u32, times: u32) -> ExitCode {
+    match work {
+        "hand-in" => hand_in(mode, times, &in_turn(mode, 1), 0),
+        "hand-in-149" => hand_in(mode, times, &in_turn(mode, PLACES - 1), 0),
+        "refused-18" => hand_in(mode, times, &filled(mode, [LAST_DEPOT; 8]), 18),
+        "refused-19" => hand_in(mode, times, &in_turn(mode, PLACES), 19),
+        "send" => send(mode, times, &in_turn(mode, 1), 0),
+        "send-far" => send(mode, times, &filled(mode, [LAST_DEPOT]), LAST_DEPOT),
+        "send-150" => send(mode, times, &in_turn(mode, PLACES), 0),
+        "send-late" => send(mode, times, &late(mode), 0),
+        "copy" => copy(times, &in_turn(mode, PLACES)),
         _ => return usage(),
     }
     ExitCode::SUCCESS
@@ -70,7 +92,8 @@ fn tune(work: &str, mode: u32, times: u32) -> ExitCode {
 fn usage() -> ExitCode {
     eprintln!(
         "usage: count encode|decode|weighted|message|find|find-long|energy|weighted-energy|locate|\
-         locate-outside|frequency|bad-first|bad-last|check|check-long MODE TIMES"
+         locate-outside|frequency|bad-first|bad-last|check|check-long|hand-in|hand-in-149|\
+         refused-18|refused-19|send|send-far|send-150|send-late|copy MODE TIMES"
     );
     ExitCode::FAILURE
 }
@@ -193,6 +216,61 @@ fn frequency(mode: u32, times: u32) {
     for _ in 0..times {
         let told = library::frequency(mode, WIDTH, CENTRE, black_box(tone));
         assert_eq!(black_box(told).number, 0);
+    }
+}
+
+/// A new sender, to which each of these depots has handed a block.
+fn filled(mode: u32, depots: impl IntoIterator<Item = u32>) -> Sender {
+    let codes = letters(mode as usize);
+    let mut sender = library::sender_new();
+    for depot in depots {
+        let answer = library::hand_in(&mut sender, depot, mode, &codes);
+        assert_eq!(answer.number, 0);
+    }
+    sender
+}
+
+/// So many blocks, one of each depot in turn.
+fn in_turn(mode: u32, count: usize) -> Sender {
+    filled(mode, (0..=LAST_DEPOT).cycle().take(count))
+}
+
+/// A full sender, in which the oldest block of depot 0, the first that is looked at, stands as far back as it can: its four are the last.
+fn late(mode: u32) -> Sender {
+    let others = (1..=LAST_DEPOT).flat_map(|depot| [depot; 5]);
+    filled(mode, [1].into_iter().chain(others).chain([0; 4]))
+}
+
+/// A block of the last depot, handed to a copy of the sender and answered with this number.
+fn hand_in(mode: u32, times: u32, sender: &Sender, number: u32) {
+    let codes = letters(mode as usize);
+    for _ in 0..times {
+        let mut copy = *black_box(sender);
+        let answer = library::hand_in(&mut copy, LAST_DEPOT, mode, black_box(&codes));
+        assert_eq!(black_box(answer).number, number);
+        black_box(&copy);
+    }
+}
+
+/// A send that serves this depot, of a copy of the sender.
+fn send(mode: u32, times: u32, sender: &Sender, depot: u32) {
+    let mut tones = [0; 64];
+    for _ in 0..times {
+        let mut copy = *black_box(sender);
+        let sent = black_box(library::send(&mut copy, &mut tones));
+        assert_eq!(
+            (sent.answer.count, sent.depot, sent.mode),
+            (64, depot, mode)
+        );
+        black_box(&copy);
+    }
+}
+
+/// What these calls take for the copy alone.
+fn copy(times: u32, sender: &Sender) {
+    for _ in 0..times {
+        let mut copy = *black_box(sender);
+        black_box(&mut copy);
     }
 }
 
