@@ -1,5 +1,6 @@
 //! States that no run of calls leaves. Whatever the bytes are, a result comes: the checks before 18 and that of the output are as
-//! always, a call that is refused or sends nothing hands the same bytes back, and no tone past the first 64 is written.
+//! always, a call that is refused or sends nothing hands the same bytes back, what is sent is a text's, and no tone past the first 64 is
+//! written.
 
 use super::super::compare::draw::{self, Wrong};
 use super::super::lent::Lent;
@@ -152,7 +153,9 @@ fn expect_sent(state: &Sender, room: usize) -> Result<Kinds, String> {
     if is_sent {
         let written = tones.part()[..SYMBOLS].to_vec();
         tones.expect("tones", &written)?;
-        expect_equal(&what, answer_of(&Ok(written)), given.answer)?;
+        expect_equal(&what, answer_of(&Ok(written.clone())), given.answer)?;
+        let heard = paper::decode_block(given.mode, 64, &written, SYMBOLS);
+        expect_equal("tones of a text", true, heard.text.is_ok())?;
     } else {
         let mut wanted = Sent::default();
         wanted.answer.number = if is_short { 9 } else { 0 };

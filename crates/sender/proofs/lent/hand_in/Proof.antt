@@ -22,15 +22,18 @@ judge-requires c κs = search needs
 enum-told : tie.Need-enum-told
 enum-told c = search needs
 
--- the block that is handed in
+-- the call, and the block that is handed in
+abbrev start : (c : tie.After-store-arg) → tie.Start
+start c = c .before .before .before .before .before .before .before .before
+
 abbrev block : (c : tie.After-store-arg) → Block
-block c = record { mode = c .before .before .before .before .before .before .before .before .args .mode; codes = c .before .before .before .before .before .before .before .before .args .codes .now }
+block c = record { mode = start c .args .mode; codes = start c .args .codes .now }
 
 -- the answer by the counts, and what it rests on
-answers-taken : (c : tie.After-store-arg) → handAnswer (countsIn (c .before .before .before .before .before .before .before .before .args .state .now)) (c .before .before .before .before .before .before .before .before .args .depot) (block c) ≡ Taken
+answers-taken : (c : tie.After-store-arg) → handAnswer (countsIn (start c .args .state .now)) (start c .args .depot) (block c) ≡ Taken
 answers-taken c = sym (c .before .before .before .judge .ensures) ∙ c .before .enum-told .given .1
 
-taken : (c : tie.After-store-arg) → Takes (countsIn (c .before .before .before .before .before .before .before .before .args .state .now)) (c .before .before .before .before .before .before .before .before .args .depot) (block c)
+taken : (c : tie.After-store-arg) → Takes (countsIn (start c .args .state .now)) (start c .args .depot) (block c)
 taken c = taken-checks _ _ _ (answers-taken c)
 
 cast-store : tie.Need-cast-store
@@ -51,13 +54,17 @@ same-length : tie.Need-same-length
 same-length c = search needs
 
 returns-2 : tie.Need-returns-2
-returns-2 c = taken-in _ _ _ (c .before .before .before .before .before .before .before .before .if1 .left) _ (answers-taken (c .before .before .before)) (c .before .before .store .ensures)
+returns-2 c =
+    let stored = c .before .before .before in
+    taken-in _ _ _ (stored .before .before .before .before .before .if1 .left) _ (answers-taken stored) (c .before .before .store .ensures)
 
 same-length-2 : tie.Need-same-length-2
 same-length-2 c = search needs
 
 returns-3 : tie.Need-returns-3
-returns-3 c = refused-in _ _ _ (c .before .before .before .before .before .if1 .left) _ (sym (c .before .before .before .judge .ensures) ∙ c .before .answer .given .1)
+returns-3 c =
+    let judged = c .before .before .before in
+    refused-in _ _ _ (judged .before .before .if1 .left) _ (sym (judged .judge .ensures) ∙ c .before .answer .given .1)
 
 pub hand-in-spec : {M : Type 1} → statement M
 hand-in-spec =

@@ -49,7 +49,10 @@ same-length-3 c = search needs
 returns-4 : tie.Need-returns-4
 returns-4 c =
     let a = c .before .before .before .before .before .before .before .before in
-    block-sent _ _ (c .before .before .before .before .before .before .before .before .before .before .before .before .if1 .left) _ (ap (λ (k : ℕ). (num (c .before .before .before .before .before .before .before .before .before .before .before .before .before .before .before .args .state .now) 1531 % 30 + k) % 30) (a .ahead .ensures)) (rw (a .ahead .ensures) at (c .before .before .before .before .before .before .before .if3 .left)) _ _ _ (c .before .before .before .before .serve .ensures)
+    let s = a .before .before .before .before .before .before .before in
+    let depot = ap (λ (k : ℕ). (num (s .args .state .now) 1531 % 30 + k) % 30) (a .ahead .ensures) in
+    let found = rw (a .ahead .ensures) at (c .before .before .before .before .before .before .before .if3 .left) in
+    block-sent _ _ (a .before .before .before .before .if1 .left) _ depot found _ _ _ (c .before .before .before .before .serve .ensures)
 
 pub send-spec : {M : Type 1} → statement M
 send-spec =

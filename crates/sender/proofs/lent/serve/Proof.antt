@@ -1,6 +1,6 @@
 use mathlib.Core.Path.{_≡_, refl, sym, _∙_, ap}
 use mathlib.Core.List.{List}
-use Prim.Native.Nat.{ℕ, _+_, _-_, _*_}
+use Prim.Native.Nat.{ℕ, _+_, _-_, _*_, _≤_}
 use native.Mathlib.Omega.{arith}
 use lib.ListN.{length, take, drop}
 use Rattle.lists.specs.Lists.{num}
@@ -107,26 +107,31 @@ same-length-2 c = search needs
 same-length-3 : tie.Need-same-length-3
 same-length-3 c = search needs
 
--- the mode and the codes of the place, as the encoder gets them
+-- the call, and the place of the block, its mode and its codes as the encoder gets them
+abbrev start : (c : tie.After-encode-block) → tie.Start
+start c = c .before .before .before .before .before .before .before .before .before .before .before .before .before
+
+abbrev at : (c : tie.After-encode-block) → ℕ
+at c = c .before .before .before .before .before .before .before .place-of .result
+
 abbrev its-mode : (c : tie.After-encode-block) → ℕ
-its-mode c = num (c .before .before .before .before .before .before .before .before .before .before .before .before .before .args .state .now) (10 * c .before .before .before .before .before .before .before .place-of .result + 1)
+its-mode c = num (start c .args .state .now) (10 * at c + 1)
 
 abbrev its-codes : (c : tie.After-encode-block) → List ℕ
-its-codes c =
-    let from = 10 * c .before .before .before .before .before .before .before .place-of .result + 2 in
-    take (from + c .before .before .before .before .code-count .result - from) (drop from (c .before .before .before .before .before .before .before .before .before .before .before .before .before .args .state .now))
+its-codes c = let from = 10 * at c + 2 in take (from + c .before .before .before .before .code-count .result - from) (drop from (start c .args .state .now))
 
-codes-placed : (c : tie.After-encode-block) → its-codes c ≡ placeIn (c .before .before .before .before .before .before .before .before .before .before .before .before .before .args .state .now) (c .before .before .before .before .before .before .before .place-of .result) .block .codes
+codes-placed : (c : tie.After-encode-block) → its-codes c ≡ placeIn (start c .args .state .now) (at c) .block .codes
 codes-placed c =
-    part-codes (c .before .before .before .before .before .before .before .before .before .before .before .before .before .args .state .now) (c .before .before .before .before .before .before .before .place-of .result) (c .before .before .before .before .code-count .result)
-    (omega (arith, c .before .before .before .before .before .before .before .before .before .before .before .before .before .pre .0, c .before .before .before .before .before .before .if2 .left, c .before .before .before .before .before .before .before .before .before .if1 .left)) (c .before .before .before .before .code-count .ensures)
+    let place-fits : 10 * at c + 10 ≤ length (start c .args .state .now) = omega (arith, start c .pre .0) in
+    let n = c .before .before .before .before .code-count in
+    part-codes (start c .args .state .now) (at c) (n .result) place-fits (n .ensures)
 
 returns-3 : tie.Need-returns-3
 unfolding placeIn isBlock
 returns-3 c =
-    let s = c .before .before .before .before .before .before .before .before .before .before .before .before .before .before .before .before .before .before .before .before .before in
-    let p = c .before .before .before .before .before .before .before .before .before .before .before .before .before .before .before .place-of in
     let enc = c .before .before .before .before .before .before .before .before in
+    let s = start enc in
+    let p = enc .before .before .before .before .before .before .before .place-of in
     let accepted = sym (enc .encode-block .ensures .0) ∙ c .before .before .before .before .enum-told .given .1 in
     record {
       serves = λ q h some few ok.
@@ -160,9 +165,9 @@ same-length-5 c = search needs
 returns-4 : tie.Need-returns-4
 unfolding placeIn
 returns-4 c =
-    let s = c .before .before .before .before .before .before .before .before .before .before .before .before .before .before .before .before .before in
-    let p = c .before .before .before .before .before .before .before .before .before .before .before .place-of in
     let enc = c .before .before .before .before in
+    let s = start enc in
+    let p = enc .before .before .before .before .before .before .before .place-of in
     let refused = sym (enc .encode-block .ensures .0) ∙ c .enum-told2 .given .1 in
     record {
       serves = λ q h some few ok.

@@ -48,7 +48,9 @@ returns c =
     let s = c .before .before .before .before .before .before .before .before .before in
     let p = c .before .before .before .put in
     record {
-      left = λ q h free fits. stored-holds q (s .args .state .now) (s .args .depot) (record { mode = s .args .mode; codes = s .args .codes .now }) (p .last .0) h (p .ensures) (s .pre .1) (omega arith) fits (s .pre .3);
+      left = λ q h free fits.
+          stored-holds q (s .args .state .now) (s .args .depot) (record { mode = s .args .mode; codes = s .args .codes .now }) (p .last .0) h
+          (p .ensures) (s .pre .1) (omega arith) fits (s .pre .3);
     }
 
 returns-2 : tie.Need-returns-2
