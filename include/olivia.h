@@ -29,7 +29,8 @@
  *    7  a block has not exactly 64 tones, or where weights are passed not exactly 64 of them, a message's tones are
  *       no multiple of 64 or over 64 * ceil(1024 / b), or a run has not 64 to 4,096 tones
  *    8  a tone that is not below 2^b, nor a missing mark where that is allowed; the lowest place (a frequency: 0)
- *    9  the output is shorter than 64 tones a block encoded, or b bytes a block decoded or found
+ *    9  the output is shorter than 64 tones a block encoded, b bytes a block decoded or found, or than the sentence
+ *       written
  *   10  unclear; place of the lowest unclear character, counted from the text's start, and its lead
  *   11  a 0 before the end of a message's text, place of the first; if none, and at least b codes
  *       stand from the end on, place of the end
@@ -42,6 +43,11 @@
  *   18  the depot has 8 blocks waiting; place is the depot
  *   19  with the block, the larger of 4 and its waiting blocks would sum to over 150 over all depots; place is the
  *       depot
+ *   20  bytes that are no sentence of the list of refusals, place is the length of the longest beginning that they
+ *       share with any sentence of it; or, to be written, a number that the list does not have, a place above
+ *       65,535, a lead above 960, or a lead other than 0 for a refusal that has none
+ *
+ * The list is in docs/REFUSALS.md: one sentence for each of these numbers.
  */
 #ifndef OLIVIA_H
 #define OLIVIA_H
@@ -53,8 +59,8 @@
 extern "C" {
 #endif
 
-/* number 0: accepted, place and lead are 0, and count is the tones or codes written. Else the refusal's number,
- * its place, its lead (0 unless the number is 10), and count is 0. */
+/* number 0: accepted, place and lead are 0, and count is the tones, codes or bytes of a sentence that were written.
+ * Else the refusal's number, its place, its lead (0 unless the number is 10), and count is 0. */
 typedef struct {
     uint32_t number;
     uint32_t place;
@@ -147,6 +153,13 @@ typedef struct {
     olivia_answer answer;
     uint32_t depot, mode;
 } olivia_sent;
+
+/* The answer for a sentence read, whose count is 0. Its number 0: number, place and lead are those of the refusal
+ * that the sentence says, with lead 0 unless number is 10. Its number 20: they are 0. */
+typedef struct {
+    olivia_answer answer;
+    uint32_t number, place, lead;
+} olivia_sentence_read;
 
 /* Encodes the n codes of a block. Checks 1, 5, 9, 6. Accepted: count is 64, and the first 64 elements of tones
  * are the block's tones. */
@@ -241,6 +254,23 @@ olivia_answer olivia_hand_in(olivia_sender *sender, uint32_t depot, uint32_t mod
  * were taken, and a depot with a block waiting is served within 30 sends, refused ones not counted. If no depot has
  * one, count is 0 and nothing is written. Blocks taken are as many as blocks sent and blocks waiting. */
 olivia_sent olivia_send(olivia_sender *sender, uint16_t *tones, size_t room);
+
+/* Writes the sentence of a refusal in words, as a log takes it: the one that docs/REFUSALS.md lists for this
+ * number, with place and lead in decimal without zeros in front. Printable ASCII, with no line feed and no zero
+ * byte at its end. number is that of any refusal of the list, place 0 to 65,535, whether or not that refusal has
+ * such a place, and lead 0 to 960 for 10 and 0 for any other. Checks 20, 9; 20 at place 0, whatever the room, and
+ * 9 of a room under the sentence's length. Accepted: count is this length, and so many elements at the front of
+ * out are the sentence. Two different refusals, places or leads never have the same sentence, and
+ * olivia_read_sentence gives for what is written the number, place and lead that it was written for. */
+olivia_answer olivia_write_sentence(uint32_t number, uint32_t place, uint32_t lead, uint8_t *out, size_t room);
+
+/* Reads the n bytes of a sentence, which are only read, back to the refusal that it says. Check 20. Accepted are
+ * exactly the sentences that olivia_write_sentence writes, from the first byte to the last: number, place and lead
+ * are then those that it writes these n bytes for. With 20 the answer's place is the length of the longest
+ * beginning that the bytes share with any sentence of the list, of every number, place and lead: 0 of no bytes, n
+ * if they are a proper beginning of a sentence, and a sentence's length if they are that sentence and more. A digit
+ * behind a place or lead of 0, or one by which a place passes 65,535 or a lead 960, is not shared. */
+olivia_sentence_read olivia_read_sentence(const uint8_t *bytes, size_t n);
 
 /* Encodes the block text into tones, decodes the tones written into one, and decodes heard into two. Each answer
  * and output is that of the call of olivia_encode_block or olivia_decode_block; if encoding is refused, no tone

@@ -35,6 +35,10 @@ static_assert(offsetof(olivia_energies, number) == 0 && offsetof(olivia_energies
 static_assert(sizeof(olivia_sender) == 150 * 10 + 30 + 2, "150 places of ten bytes, 30 counts, one more, and the turn");
 static_assert(offsetof(olivia_sent, depot) == 16 && offsetof(olivia_sent, mode) == 20 && sizeof(olivia_sent) == 24,
               "an answer and two numbers");
+static_assert(offsetof(olivia_sentence_read, answer) == 0 && offsetof(olivia_sentence_read, number) == 16 &&
+                  offsetof(olivia_sentence_read, place) == 20 && offsetof(olivia_sentence_read, lead) == 24 &&
+                  sizeof(olivia_sentence_read) == 28,
+              "an answer and three numbers");
 
 static int cases, failures;
 
@@ -418,6 +422,78 @@ static void senders(void)
     check("a first block there", takes(&sender, 8, 2, text));
 }
 
+/* The refusal is written as this sentence where there is just room for it, and where there is more, and the bytes behind it are
+ * kept; with one byte less it is refused with 9, and nothing is written. */
+static int writes(uint32_t number, uint32_t place, uint32_t lead, const char *sentence)
+{
+    const size_t length = strlen(sentence);
+    uint8_t out[128], before[128];
+
+    memset(out, 200, sizeof out);
+    memcpy(before, out, sizeof out);
+    if (!is(olivia_write_sentence(number, place, lead, out, length - 1), 9, 0, 0, 0) || memcmp(out, before, sizeof out) != 0)
+        return 0;
+    memcpy(before, sentence, length);
+    return is(olivia_write_sentence(number, place, lead, out, length), 0, 0, 0, (uint32_t)length) &&
+           is(olivia_write_sentence(number, place, lead, out, sizeof out), 0, 0, 0, (uint32_t)length) &&
+           memcmp(out, before, sizeof out) == 0;
+}
+
+/* The refusal has no sentence: 20, with room for one and without, and nothing is written. */
+static int has_no_sentence(uint32_t number, uint32_t place, uint32_t lead)
+{
+    uint8_t out[128], before[128];
+
+    memset(out, 200, sizeof out);
+    memcpy(before, out, sizeof out);
+    return is(olivia_write_sentence(number, place, lead, out, sizeof out), 20, 0, 0, 0) &&
+           is(olivia_write_sentence(number, place, lead, NULL, 0), 20, 0, 0, 0) && memcmp(out, before, sizeof out) == 0;
+}
+
+static int says(const char *sentence, uint32_t number, uint32_t place, uint32_t lead)
+{
+    const olivia_sentence_read read = olivia_read_sentence((const uint8_t *)sentence, strlen(sentence));
+
+    return is(read.answer, 0, 0, 0, 0) && read.number == number && read.place == place && read.lead == lead;
+}
+
+/* The n bytes say nothing: so many of them are a beginning of a sentence. */
+static int says_nothing(const char *bytes, size_t n, uint32_t shared)
+{
+    const olivia_sentence_read read = olivia_read_sentence((const uint8_t *)bytes, n);
+
+    return is(read.answer, 20, shared, 0, 0) && read.number == 0 && read.place == 0 && read.lead == 0;
+}
+
+static void sentences(void)
+{
+    static const char mode[] = "Refusal 1: the mode is not from 1 to 8 (place 0).";
+    static const char unclear[] = "Refusal 10: the character at place 1023 is unclear: its lead is 960.";
+    static const char depot[] = "Refusal 18: depot 65535 has 8 blocks waiting.", zero[] = "Refusal 18: depot 065";
+    const size_t length = sizeof depot - 1;
+
+    check("refusal 1 written", writes(1, 0, 0, mode));
+    check("refusal 10 written", writes(10, 1023, 960, unclear));
+    check("refusal 18 written", writes(18, 65535, 0, depot));
+    check("refusal 1 into no output", is(olivia_write_sentence(1, 0, 0, NULL, 0), 9, 0, 0, 0));
+    check("number 0 to be written", has_no_sentence(0, 0, 0));
+    check("number 274 to be written", has_no_sentence(256 + 18, 0, 0));
+    check("number 4294967295 to be written", has_no_sentence(4294967295, 0, 0));
+    check("place 65536 to be written", has_no_sentence(18, 65536, 0));
+    check("lead 961 to be written", has_no_sentence(10, 0, 961));
+    check("a lead of refusal 8 to be written", has_no_sentence(8, 0, 1));
+    check("refusal 1 read", says(mode, 1, 0, 0));
+    check("refusal 10 read", says(unclear, 10, 1023, 960));
+    check("refusal 18 read", says(depot, 18, 65535, 0));
+    check("no bytes read", says_nothing(NULL, 0, 0));
+    check("a sentence without its last byte", says_nothing(depot, length - 1, (uint32_t)length - 1));
+    check("a sentence with the zero behind it", says_nothing(depot, length + 1, (uint32_t)length));
+    check("a place with a zero in front", says_nothing(zero, sizeof zero - 1, (uint32_t)sizeof zero - 3));
+    check("a place of 65536", says_nothing("Refusal 18: depot 65536 has", 27, 22));
+    check("a lead of 961", says_nothing("Refusal 10: the character at place 3 is unclear: its lead is 961.", 65, 63));
+    check("a log's other line", says_nothing("depot 18", 8, 0));
+}
+
 int main(void)
 {
     blocks();
@@ -431,6 +507,7 @@ int main(void)
     weighted_trials();
     energies();
     senders();
+    sentences();
     printf("header: %d cases\n", cases);
     return failures != 0;
 }

@@ -1,6 +1,6 @@
 //! The library's C interface, and the same functions over slices.
 
-/// Number 0 is acceptance. `count` is how many tones or codes were written.
+/// Number 0 is acceptance. `count` is how many tones, codes or bytes of a sentence were written.
 #[repr(C)]
 #[derive(Clone, Copy, Debug, Default, PartialEq, Eq)]
 pub struct Answer {
@@ -110,9 +110,19 @@ pub struct Sent {
     pub mode: u32,
 }
 
+/// The answer's number 0: number, place and lead are those of the refusal that the sentence says.
+#[repr(C)]
+#[derive(Clone, Copy, Debug, Default, PartialEq, Eq)]
+pub struct SentenceRead {
+    pub answer: Answer,
+    pub number: u32,
+    pub place: u32,
+    pub lead: u32,
+}
+
 mod c {
-    use super::WeightedTrial;
     use super::{Answer, Block, Energies, Found, Hertz, Located, Looked, Sender, Sent, Trial};
+    use super::{SentenceRead, WeightedTrial};
 
     extern "C" {
         pub fn olivia_encode_block(
@@ -213,6 +223,14 @@ mod c {
             n: usize,
         ) -> Answer;
         pub fn olivia_send(sender: *mut Sender, tones: *mut u16, room: usize) -> Sent;
+        pub fn olivia_write_sentence(
+            number: u32,
+            place: u32,
+            lead: u32,
+            out: *mut u8,
+            room: usize,
+        ) -> Answer;
+        pub fn olivia_read_sentence(bytes: *const u8, n: usize) -> SentenceRead;
     }
 }
 
@@ -374,4 +392,13 @@ pub fn hand_in(sender: &mut Sender, depot: u32, mode: u32, codes: &[u8]) -> Answ
 pub fn send(sender: &mut Sender, tones: &mut [u16]) -> Sent {
     let (to, room) = (start_mut(tones), tones.len());
     unsafe { c::olivia_send(sender, to, room) }
+}
+
+pub fn write_sentence(number: u32, place: u32, lead: u32, out: &mut [u8]) -> Answer {
+    let (to, room) = (start_mut(out), out.len());
+    unsafe { c::olivia_write_sentence(number, place, lead, to, room) }
+}
+
+pub fn read_sentence(bytes: &[u8]) -> SentenceRead {
+    unsafe { c::olivia_read_sentence(start(bytes), bytes.len()) }
 }

@@ -4,14 +4,14 @@
 mod groups;
 
 use groups::{cases, compare, demand3, energies, finding, listing, plain, queues, raising, range};
-use groups::{records, sheet, tuning, vectors, weight0, weighted, weights, words, Report};
+use groups::{records, sentences, sheet, tuning, vectors, weight0, weighted, weights, words};
 use olivia_tests::paper;
 use std::io::{self, Read, Write};
 use std::process::ExitCode;
 
-type Group = (&'static str, fn() -> Report);
+type Group = (&'static str, fn() -> groups::Report);
 
-const GROUPS: [Group; 18] = [
+const GROUPS: [Group; 19] = [
     ("vectors", vectors::run),
     ("words", words::run),
     ("sheet", sheet::run),
@@ -23,6 +23,7 @@ const GROUPS: [Group; 18] = [
     ("raising", raising::run),
     ("tuning", tuning::run),
     ("queues", queues::run),
+    ("sentences", sentences::run),
     ("cases", cases::run),
     ("compare", compare::run),
     ("plain", plain::run),

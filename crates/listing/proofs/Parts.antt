@@ -7,7 +7,7 @@ use lib.ListN.{length, take, drop, length-append, length-take, take-append-drop}
 use lib.Seq.{drop-append-le}
 use Rattle.lists.specs.Lists.{over}
 use Rattle.lists.proofs.Fronts.{over-after, over-fits}
-use Rattle.report.proofs.Puts.{Put}
+use Rattle.text.proofs.Puts.{Put}
 
 -- a front of the first n bytes is a front of all
 front-of-part : (text out : List ℕ) (n : ℕ) → length text ≤ length (take n out) → over text (take n out) ++ drop n out ≡ over text out

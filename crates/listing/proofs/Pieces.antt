@@ -7,7 +7,7 @@ use lib.ListN.{length, take, drop, length-drop, drop-of-length-le}
 use lib.Seq.{drop-drop}
 use Rattle.lists.specs.Lists.{over}
 use Rattle.reader.specs.Reader.{endTones, lineFrom}
-use Rattle.report.proofs.Puts.{Put, put-none}
+use Rattle.text.proofs.Puts.{Put, put-none}
 use Rattle.stages.specs.declared.Listing.{Listing}
 use Rattle.stages.specs.declared.Progress.{Progress}
 use Rattle.stages.specs.Stages.{Said, told}

@@ -7,6 +7,7 @@ use told::BlockAnswer;
 use told::EnergiesAnswer;
 use told::FoundAnswer;
 use told::LocatedAnswer;
+use told::ReadAnswer;
 use told::SentAnswer;
 ghost use mathlib.Core.Path.{_≡_};
 ghost use lib.ListN.{length};
@@ -19,7 +20,9 @@ ghost use Rattle.band.specs.Frequencies.{frequencyOf};
 ghost use Rattle.band.specs.Locating.{locatedOf};
 ghost use Rattle.finder.specs.Finding.{findBlock, foundInto};
 ghost use Rattle.energy.specs.Energies.{blockEnergies, weightedEnergies};
-ghost use Rattle.told.specs.Told.{encodedTold, decodedTold, blockTold, foundTold, energiesTold, locatedTold};
+ghost use Rattle.told.specs.Told.{encodedTold, decodedTold, blockTold, foundTold, energiesTold, locatedTold, writtenTold, readTold};
+ghost use Rattle.sentence.specs.Reading.{readSentence};
+ghost use Rattle.sentence.specs.Writing.{writeSentence, sentenceInto};
 ghost use Rattle.sender.specs.Queues.{new};
 ghost use Rattle.sender.specs.State.{Holds};
 ghost use Rattle.olivia.specs.Sending.{HandedInForC, SentForC};
@@ -214,6 +217,26 @@ pub extern "C" fn olivia_send(state: &mut [u8; 1532], tones: &mut [u16]) -> Sent
     ensures { λ r. ⌜ SentForC (now (state .entry)) (now (tones .entry)) r (now (tones .exit)) (now (state .exit)) ⌝ }
 {
     told::sent(lent::send(state, tones))
+}
+
+#[no_mangle]
+pub extern "C" fn olivia_write_sentence(
+    number: u32,
+    place: u32,
+    lead: u32,
+    out: &mut [u8],
+) -> Answer
+    ensures answer { λ r. ⌜ r ≡ writtenTold (writeSentence (record { number = number; place = place; lead = lead }) (length (now (out .entry)))) ⌝ }
+    ensures output { λ _. ⌜ now (out .exit) ≡ sentenceInto (record { number = number; place = place; lead = lead }) (now (out .entry)) ⌝ }
+{
+    told::written(sentence::write_sentence(number, place as usize, lead, out))
+}
+
+#[no_mangle]
+pub extern "C" fn olivia_read_sentence(bytes: &[u8]) -> ReadAnswer
+    ensures { λ r. ⌜ r ≡ readTold (readSentence (now (bytes .entry))) ⌝ }
+{
+    told::read(sentence::read_sentence(bytes))
 }
 
 // The promise of trial::run, of the answers as C is told them.

@@ -43,6 +43,8 @@ pub const DEPOT: u8 = 17;
 pub const DEPOT_FULL: u8 = 18;
 // The writer: with the block, the larger of 4 and its waiting blocks would sum to over 150 over all depots.
 pub const ALL_FULL: u8 = 19;
+// The log, or the program that writes it: a sentence that is not of the list, or a refusal that has none.
+pub const SENTENCE: u8 = 20;
 
 // Number, place and lead; the lead is 0 but for UNCLEAR.
 pub struct Refusal {

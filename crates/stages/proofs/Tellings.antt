@@ -8,7 +8,8 @@ use lib.ListN.{length}
 use Rattle.lists.specs.Lists.{over}
 use Rattle.lists.proofs.Fronts.{over-fits}
 use Rattle.report.specs.Output.{fitting}
-use Rattle.report.proofs.Puts.{Put, put-nothing}
+use Rattle.text.proofs.Puts.{Put}
+use Rattle.report.proofs.Puts.{put-nothing}
 use Rattle.stages.specs.declared.Progress.{Progress}
 use Rattle.stages.specs.declared.Listing.{Listing}
 use Rattle.stages.specs.Stages.{Said, told, toldIn}

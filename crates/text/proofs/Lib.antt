@@ -6,3 +6,4 @@ pub mod ReadBack
 pub mod Signs
 pub mod Writing
 pub mod Labels
+pub mod Puts

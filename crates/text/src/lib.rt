@@ -62,6 +62,19 @@ fn magnitude(n: i32) -> u64
     n as u64
 }
 
+// The count of a number's digits.
+pub fn decimal_length(n: u64) -> usize
+    ensures { λ r. ⌜ r ≡ length (decimal n) ⌝ }
+{
+    let mut count: usize = 1;
+    let mut left = n;
+    while 10 <= left {
+        left = left / 10;
+        count += 1;
+    }
+    count
+}
+
 // A number in decimal, whole or not at all.
 pub fn put_decimal(n: u64, out: &mut [u8]) -> usize
     ensures answer { λ r. ⌜ r ≡ length (written (decimal n) (length (now (out .entry)))) ⌝ }

@@ -19,10 +19,15 @@ use Rattle.sender.specs.declared.Handed.{Handed}
 use Rattle.sender.specs.declared.Handed.the-variants as handed
 use Rattle.sender.specs.declared.Sent.{Sent}
 use Rattle.sender.specs.declared.Sent.the-variants as sent
+use Rattle.sentence.specs.declared.Written.{Written}
+use Rattle.sentence.specs.declared.Written.the-variants as written
+use Rattle.sentence.specs.declared.Read.{Read}
+use Rattle.sentence.specs.declared.Read.the-variants as read
+use Rattle.sentence.proofs.Sizes.{writtenCarries, readCarries}
 use Rattle.band.specs.Locating.{refusalOf}
 use Rattle.band.specs.declared.Located.{Located}
 use Rattle.band.specs.declared.Located.the-variants as located
-use Rattle.told.specs.Capped.{placeCapped, sentCapped, heardCapped, blockCapped, findingCapped, foundCapped, totalledCapped, energiesCapped, locatedCapped, handedCapped, outCapped}
+use Rattle.told.specs.Capped.{placeCapped, sentCapped, heardCapped, blockCapped, findingCapped, foundCapped, totalledCapped, energiesCapped, locatedCapped, handedCapped, outCapped, writtenCapped, readCapped}
 
 -- the count or the place that an answer carries
 abbrev pub carriedBy : Encoded → ℕ
@@ -91,3 +96,11 @@ pub out-kept : (a : Sent) → ((r : Refusal) → a ≡ sent.Refused r → r .pla
 out-kept (sent.Block depot mode) h = refl
 out-kept sent.NoneWaiting h = refl
 out-kept (sent.Refused r) h = ap sent.Refused (place-kept r (h r refl))
+
+pub written-kept : (a : Written) → writtenCarries a < 2 ^ 32 → writtenCapped a ≡ a
+written-kept (written.Length n) h = ap written.Length (small-kept n h)
+written-kept (written.Refused r) h = ap written.Refused (place-kept r h)
+
+pub read-kept : (a : Read) → readCarries a < 2 ^ 32 → readCapped a ≡ a
+read-kept (read.Sentence r) h = ap read.Sentence (place-kept r h)
+read-kept (read.Refused r) h = ap read.Refused (place-kept r h)

@@ -16,6 +16,10 @@ use Rattle.sender.specs.declared.Handed.{Handed}
 use Rattle.sender.specs.declared.Handed.the-variants as handed
 use Rattle.sender.specs.declared.Sent.{Sent}
 use Rattle.sender.specs.declared.Sent.the-variants as sent
+use Rattle.sentence.specs.declared.Written.{Written}
+use Rattle.sentence.specs.declared.Written.the-variants as written
+use Rattle.sentence.specs.declared.Read.{Read}
+use Rattle.sentence.specs.declared.Read.the-variants as read
 use Rattle.band.specs.declared.Located.{Located}
 use Rattle.band.specs.declared.Located.the-variants as located
 
@@ -72,3 +76,13 @@ abbrev pub outCapped : Sent → Sent
 outCapped (sent.Block depot mode) = sent.Block depot mode
 outCapped sent.NoneWaiting = sent.NoneWaiting
 outCapped (sent.Refused r) = sent.Refused (placeCapped r)
+
+-- what writing a sentence answers, with its length or place capped
+abbrev pub writtenCapped : Written → Written
+writtenCapped (written.Length n) = written.Length (capped n)
+writtenCapped (written.Refused r) = written.Refused (placeCapped r)
+
+-- what reading one answers, with its place capped
+abbrev pub readCapped : Read → Read
+readCapped (read.Sentence r) = read.Sentence (placeCapped r)
+readCapped (read.Refused r) = read.Refused (placeCapped r)

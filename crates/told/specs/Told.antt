@@ -22,6 +22,10 @@ use Rattle.sender.specs.declared.Handed.{Handed}
 use Rattle.sender.specs.declared.Handed.the-variants as handed
 use Rattle.sender.specs.declared.Sent.{Sent}
 use Rattle.sender.specs.declared.Sent.the-variants as sent
+use Rattle.sentence.specs.declared.Written.{Written}
+use Rattle.sentence.specs.declared.Written.the-variants as written
+use Rattle.sentence.specs.declared.Read.{Read}
+use Rattle.sentence.specs.declared.Read.the-variants as read
 use Rattle.scaled.specs.Exact.{scaled}
 use Rattle.band.specs.Locating.{refusalOf}
 use Rattle.band.specs.declared.Located.{Located}
@@ -33,8 +37,9 @@ use Rattle.told.specs.declared.FoundAnswer.{FoundAnswer}
 use Rattle.told.specs.declared.EnergiesAnswer.{EnergiesAnswer}
 use Rattle.told.specs.declared.LocatedAnswer.{LocatedAnswer}
 use Rattle.told.specs.declared.SentAnswer.{SentAnswer}
+use Rattle.told.specs.declared.ReadAnswer.{ReadAnswer}
 
--- number 0: accepted, with the count of tones or codes written
+-- number 0: accepted, with the count of tones, codes or bytes written
 abbrev pub acceptedTold : ℕ → Answer
 acceptedTold n = record { number = 0; place = 0; lead = 0; count = n }
 
@@ -103,3 +108,12 @@ abbrev pub sentTold : Sent → SentAnswer
 sentTold (sent.Block depot mode) = record { answer = acceptedTold 64; depot = depot; mode = mode }
 sentTold sent.NoneWaiting = record { answer = acceptedTold 0; depot = 0; mode = 0 }
 sentTold (sent.Refused r) = record { answer = refusalTold r; depot = 0; mode = 0 }
+
+abbrev pub writtenTold : Written → Answer
+writtenTold (written.Length n) = acceptedTold n
+writtenTold (written.Refused r) = refusalTold r
+
+-- number 0: the refusal that the sentence came from
+abbrev pub readTold : Read → ReadAnswer
+readTold (read.Sentence r) = record { answer = acceptedTold 0; number = r .number; place = r .place; lead = r .lead }
+readTold (read.Refused r) = record { answer = refusalTold r; number = 0; place = 0; lead = 0 }

@@ -12,12 +12,14 @@ use finder::Finding;
 use refusal::Refusal;
 use sender::Handed;
 use sender::Sent;
+use sentence::Read;
+use sentence::Written;
 ghost use mathlib.Core.Path.{_≡_};
 ghost use Rattle.lists.specs.Caps.{capped};
-ghost use Rattle.told.specs.Told.{acceptedTold, refusalTold, encodedTold, decodedTold, characterTold, charactersTold, blockTold, foundTold, energiesTold, nowhereTold, locatedTold, handedTold, sentTold};
-ghost use Rattle.told.specs.Capped.{placeCapped, sentCapped, heardCapped, blockCapped, foundCapped, energiesCapped, locatedCapped, handedCapped, outCapped};
+ghost use Rattle.told.specs.Told.{acceptedTold, refusalTold, encodedTold, decodedTold, characterTold, charactersTold, blockTold, foundTold, energiesTold, nowhereTold, locatedTold, handedTold, sentTold, writtenTold, readTold};
+ghost use Rattle.told.specs.Capped.{placeCapped, sentCapped, heardCapped, blockCapped, foundCapped, energiesCapped, locatedCapped, handedCapped, outCapped, writtenCapped, readCapped};
 
-// number 0: accepted, and count is the tones or codes written. Else the refusal, and count is 0.
+// number 0: accepted, and count is the tones, codes or bytes written. Else the refusal, and count is 0.
 #[repr(C)]
 pub struct Answer {
     pub number: u32,
@@ -76,6 +78,15 @@ pub struct SentAnswer {
     pub answer: Answer,
     pub depot: u32,
     pub mode: u32,
+}
+
+// number 0: the refusal that a sentence came from. Else the answer has the refusal, and zeros follow.
+#[repr(C)]
+pub struct ReadAnswer {
+    pub answer: Answer,
+    pub number: u32,
+    pub place: u32,
+    pub lead: u32,
 }
 
 pub fn encoded(answer: Encoded) -> Answer
@@ -209,6 +220,34 @@ pub fn sent(answer: Sent) -> SentAnswer
             answer: refused(refusal),
             depot: 0,
             mode: 0,
+        },
+    }
+}
+
+pub fn written(answer: Written) -> Answer
+    ensures { λ r. ⌜ r ≡ writtenTold (writtenCapped answer) ⌝ }
+{
+    match answer {
+        Written::Length(count) => accepted(count),
+        Written::Refused(refusal) => refused(refusal),
+    }
+}
+
+pub fn read(answer: Read) -> ReadAnswer
+    ensures { λ r. ⌜ r ≡ readTold (readCapped answer) ⌝ }
+{
+    match answer {
+        Read::Sentence(refusal) => ReadAnswer {
+            answer: accepted(0),
+            number: refusal.number as u32,
+            place: capped(refusal.place),
+            lead: refusal.lead,
+        },
+        Read::Refused(refusal) => ReadAnswer {
+            answer: refused(refusal),
+            number: 0,
+            place: 0,
+            lead: 0,
         },
     }
 }

@@ -15,6 +15,7 @@ pub mod raising;
 pub mod range;
 mod receivers;
 pub mod records;
+pub mod sentences;
 pub mod sheet;
 mod tally;
 pub mod tuning;

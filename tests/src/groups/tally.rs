@@ -1,4 +1,4 @@
-//! How often each kind of block, message, run or measurement was met.
+//! How often each kind of block, message, run, measurement or sentence was met.
 
 /// Each kind is met at least so often.
 const OFTEN: usize = 100;

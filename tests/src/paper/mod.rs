@@ -1,5 +1,5 @@
-//! Document 01 ("Olivia text link: from characters to tones and back"), with orders 1 to 5, 7 and 13 of document 02, written
-//! down a second time, to hold the library and the listing program against.
+//! Document 01 ("Olivia text link: from characters to tones and back"), with orders 1 to 5, 7, 8 and 13 of document 02,
+//! written down a second time, to hold the library and the listing program against.
 //!
 //! Each function quotes the rule that it is. Nothing here is fast or shared with the library: a correlation is a sum over 64
 //! places, and the symbol of a tone is searched for. A function hands back what an entry has to write; `room` is the length of the
@@ -17,6 +17,7 @@ mod queues;
 mod range;
 mod refusals;
 mod sending;
+mod sentences;
 mod tuning;
 mod weights;
 
@@ -36,6 +37,7 @@ pub use sending::{
     block_symbols, block_tones, code_bit, encode_block, key_bit, place_in_symbol, reference_word,
     tone_of,
 };
+pub use sentences::{read_sentence, rows, shared, write_sentence, Row, GREATEST_PLACE};
 pub use tuning::{locate, Located};
 pub use weights::decode_weighted;
 
@@ -48,7 +50,7 @@ pub const MISSING: u16 = 65535;
 /// "Newer boards send a weight from 0 to 15 with each tone" (document 02, order 3).
 pub const GREATEST_WEIGHT: u8 = 15;
 
-/// "With weights, m runs from 1 to 960" (document 02, order 3).
+/// "With weights, m runs from 1 to 960" (document 02, order 3); in a sentence leads go "up to 960" (order 8).
 pub const GREATEST_LEAD: u32 = 960;
 
 /// "A message is 0 to 1,024 codes from 1 to 127."

@@ -3,7 +3,8 @@ use mathlib.Core.Path.{ap, sym, _∙_}
 use native.Mathlib.Omega.{arith}
 use Rattle.block_report.specs.Lines.{charactersText}
 use Rattle.block_report.proofs.BlockTexts.{text-accepted, text-refusal}
-use Rattle.report.proofs.Puts.{put-as, put-short, put-fitting}
+use Rattle.text.proofs.Puts.{put-as}
+use Rattle.report.proofs.Puts.{put-short, put-fitting}
 use Rattle.block_report.proofs.put_block.Statement.{statement}
 use Rattle.block_report.proofs.put_block.Tie as tie
 

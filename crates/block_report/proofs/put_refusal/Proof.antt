@@ -1,6 +1,7 @@
 use borrow.Author.Needs.{needs}
 use Rattle.block_report.proofs.BlockTexts.{text-unclear, text-refused}
-use Rattle.report.proofs.Puts.{put-as, put-roomy}
+use Rattle.text.proofs.Puts.{put-as}
+use Rattle.report.proofs.Puts.{put-roomy}
 use Rattle.block_report.proofs.put_refusal.Statement.{statement}
 use Rattle.block_report.proofs.put_refusal.Tie as tie
 

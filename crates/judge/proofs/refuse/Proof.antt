@@ -3,7 +3,7 @@ use mathlib.Core.Path.{ap, sym}
 use lib.ListN.{length}
 use Rattle.refusal.specs.declared.Refusal.{Refusal}
 use Rattle.report.specs.Output.{refusedText, fitting}
-use Rattle.report.proofs.Puts.{put-as}
+use Rattle.text.proofs.Puts.{put-as}
 use Rattle.stages.proofs.Tellings.{tells-text}
 use Rattle.judge.proofs.refuse.Statement.{statement}
 use Rattle.judge.proofs.refuse.Tie as tie

@@ -5,7 +5,8 @@ use Prim.Native.Nat.{ℕ, _+_, _-_, _≤_}
 use native.Mathlib.Omega.{arith}
 use lib.ListN.{length, take, drop, length-take, length-drop}
 use lib.Seq.{length-take-le, length-front}
-use Rattle.report.proofs.Puts.{Put, put-as, put-roomy}
+use Rattle.text.proofs.Puts.{Put, put-as}
+use Rattle.report.proofs.Puts.{put-roomy}
 use Rattle.stages.specs.declared.Listing.{Listing}
 use Rattle.stages.specs.declared.Progress.{Progress}
 use Rattle.stages.specs.Stages.{stopped, endingText}

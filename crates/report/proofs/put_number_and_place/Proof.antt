@@ -8,7 +8,7 @@ use Rattle.text.specs.Ascii.{ascii, lineFeed, space}
 use Rattle.text.specs.Decimal.{field}
 use Rattle.text.proofs.Decimals.{field-length}
 use Rattle.report.specs.Output.{refusedText}
-use Rattle.report.proofs.Puts.{Put, put-whole, put-after, put-within, put-rest}
+use Rattle.text.proofs.Puts.{Put, put-whole, put-after, put-within, put-rest}
 use Rattle.report.proofs.put_number_and_place.Statement.{statement}
 use Rattle.report.proofs.put_number_and_place.Tie as tie
 

@@ -4,7 +4,8 @@ use Rattle.lists.specs.Lists.{tab}
 use Rattle.text.specs.Ascii.{ascii, lineFeed}
 use Rattle.text.proofs.Decimals.{field-length}
 use Rattle.report.specs.Output.{unreadableText}
-use Rattle.report.proofs.Puts.{put-whole, put-short, put-fitting}
+use Rattle.text.proofs.Puts.{put-whole}
+use Rattle.report.proofs.Puts.{put-short, put-fitting}
 use Rattle.report.proofs.put_unreadable.Statement.{statement}
 use Rattle.report.proofs.put_unreadable.Tie as tie
 

@@ -3,7 +3,7 @@ use native.Mathlib.Omega.{arith}
 use Rattle.lists.specs.Lists.{tab}
 use Rattle.text.specs.Ascii.{ascii}
 use Rattle.report.specs.Output.{heading}
-use Rattle.report.proofs.Puts.{put-whole}
+use Rattle.text.proofs.Puts.{put-whole}
 use Rattle.stages.proofs.put_heading.Statement.{statement}
 use Rattle.stages.proofs.put_heading.Tie as tie
 

@@ -6,7 +6,7 @@ use lib.ListN.{length}
 use Rattle.block_report.specs.Lines.{wordsText, characterText}
 use Rattle.block_report.proofs.TextBounds.{decided-length, words-length, Small}
 use Rattle.block_report.proofs.Elements.{held-small}
-use Rattle.report.proofs.Puts.{put-after, put-within, put-room}
+use Rattle.text.proofs.Puts.{put-after, put-within, put-room}
 use Rattle.block_report.proofs.lines.put_character.Statement.{statement}
 use Rattle.block_report.proofs.lines.put_character.Tie as tie
 

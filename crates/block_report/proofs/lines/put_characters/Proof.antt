@@ -8,7 +8,7 @@ use lib.ListN.{length}
 use Rattle.block_report.specs.Lines.{charactersText}
 use Rattle.block_report.proofs.TextBounds.{character-length, characters-length}
 use Rattle.block_report.proofs.Elements.{each-small}
-use Rattle.report.proofs.Puts.{Put, put-none, put-after, put-room}
+use Rattle.text.proofs.Puts.{Put, put-none, put-after, put-room}
 use Rattle.block_report.proofs.lines.put_characters.Statement.{statement}
 use Rattle.block_report.proofs.lines.put_characters.Tie as tie
 

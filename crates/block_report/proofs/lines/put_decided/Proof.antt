@@ -5,7 +5,7 @@ use borrow.Author.Needs.{needs}
 use Rattle.text.specs.Ascii.{space}
 use Rattle.block_report.specs.Lines.{placeText, decidedText}
 use Rattle.block_report.proofs.TextBounds.{pair-length}
-use Rattle.report.proofs.Puts.{put-after, put-within, put-room}
+use Rattle.text.proofs.Puts.{put-after, put-within, put-room}
 use Rattle.block_report.proofs.lines.put_decided.Statement.{statement}
 use Rattle.block_report.proofs.lines.put_decided.Tie as tie
 

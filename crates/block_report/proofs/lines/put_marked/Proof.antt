@@ -10,7 +10,7 @@ use Rattle.text.specs.Decimal.{field}
 use Rattle.text.proofs.Decimals.{field-length}
 use Rattle.block_report.specs.Lines.{placeText, markedText}
 use Rattle.block_report.proofs.TextBounds.{pair-length}
-use Rattle.report.proofs.Puts.{put-after, put-within, put-rest}
+use Rattle.text.proofs.Puts.{put-after, put-within, put-rest}
 use Rattle.block_report.proofs.lines.put_marked.Statement.{statement}
 use Rattle.block_report.proofs.lines.put_marked.Tie as tie
 

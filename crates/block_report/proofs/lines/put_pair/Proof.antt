@@ -6,7 +6,7 @@ use lib.ListN.{length}
 use Rattle.text.specs.Ascii.{space}
 use Rattle.text.specs.Decimal.{field}
 use Rattle.text.proofs.Decimals.{field-length}
-use Rattle.report.proofs.Puts.{Put, put-whole, put-after, put-within, put-rest}
+use Rattle.text.proofs.Puts.{Put, put-whole, put-after, put-within, put-rest}
 use Rattle.block_report.proofs.lines.put_pair.Statement.{statement}
 use Rattle.block_report.proofs.lines.put_pair.Tie as tie
 

@@ -8,7 +8,7 @@ use mir.Facts.{toZ-ofZ}
 use Rattle.text.specs.Ascii.{space}
 use Rattle.text.specs.Decimal.{field, signedField}
 use Rattle.text.proofs.Decimals.{field-length-32, signed-field-length}
-use Rattle.report.proofs.Puts.{Put, put-whole, put-after, put-within, put-rest}
+use Rattle.text.proofs.Puts.{Put, put-whole, put-after, put-within, put-rest}
 use Rattle.block_report.specs.Lines.{wordText}
 use Rattle.block_report.proofs.lines.put_word.Statement.{statement}
 use Rattle.block_report.proofs.lines.put_word.Tie as tie

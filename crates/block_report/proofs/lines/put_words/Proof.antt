@@ -11,7 +11,7 @@ use Rattle.text.specs.Ascii.{lineFeed, space}
 use Rattle.block_report.specs.Lines.{wordText, wordsText}
 use Rattle.block_report.proofs.TextBounds.{word-length, Small}
 use Rattle.block_report.proofs.Elements.{held-small, correlations-fit}
-use Rattle.report.proofs.Puts.{Put, put-after, put-within, put-room}
+use Rattle.text.proofs.Puts.{Put, put-after, put-within, put-room}
 use Rattle.block_report.proofs.lines.put_words.Statement.{statement}
 use Rattle.block_report.proofs.lines.put_words.Tie as tie
 

@@ -1,7 +1,7 @@
-//! Calls the library so many times on one input, for a tool that counts instructions: `count WORK MODE TIMES`, where WORK is
-//! `encode`, `decode`, `weighted`, `message`, `find`, `find-long`, `energy`, `weighted-energy`, `locate`, `locate-outside`,
-//! `frequency`, `bad-first`, `bad-last`, `check`, `check-long`, `hand-in`, `hand-in-149`, `refused-18`, `refused-19`, `send`,
-//! `send-far`, `send-150`, `send-late` or `copy`. What is located is 1,000 inputs in turn.
+//! Calls the library so many times on one input, for a tool that counts instructions: `count WORK MODE TIMES`, where WORK is one of
+//! those that `usage` names. What is located is 1,000 inputs in turn; a sentence has no mode, and any does for it.
+
+mod sentences;
 
 use olivia_tests::library::{self, Sender};
 use olivia_tests::random::Random;
@@ -84,7 +84,7 @@ fn queue(work: &str, mode: u32, times: u32) -> ExitCode {
         "send-150" => send(mode, times, &in_turn(mode, PLACES), 0),
         "send-late" => send(mode, times, &late(mode), 0),
         "copy" => copy(times, &in_turn(mode, PLACES)),
-        _ => return usage(),
+        _ => return sentences::run(work, times),
     }
     ExitCode::SUCCESS
 }
@@ -93,7 +93,8 @@ fn usage() -> ExitCode {
     eprintln!(
         "usage: count encode|decode|weighted|message|find|find-long|energy|weighted-energy|locate|\
          locate-outside|frequency|bad-first|bad-last|check|check-long|hand-in|hand-in-149|\
-         refused-18|refused-19|send|send-far|send-150|send-late|copy MODE TIMES"
+         refused-18|refused-19|send|send-far|send-150|send-late|copy|write-1|write-10|write-20|\
+         read-1|read-10|read-20|read-noise MODE TIMES"
     );
     ExitCode::FAILURE
 }

@@ -1,0 +1,10 @@
+pub mod Soundness
+pub mod Following
+pub mod Pieces
+pub mod ScanCases
+pub mod PieceCases
+pub mod Tables
+pub mod RowCases
+pub mod Fillings
+pub mod Sizes
+pub mod WriteCases

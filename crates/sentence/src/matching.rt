@@ -1,0 +1,125 @@
+// Bytes matched with a pattern.
+ghost use mathlib.Core.Path.{_≡_};
+ghost use mathlib.Core.Bool.{false, cond};
+ghost use Prim.Native.Nat.{_+_, _<_, _≤_, _^_};
+ghost use Rattle.sentence.specs.Reading.{mayFollow, scanFrom, piece, joined, matched};
+
+// Digits at the front, and their value.
+pub struct Scanned {
+    pub count: usize,
+    pub value: u32,
+}
+
+// How many bytes agree with a sentence of a pattern, whether they are the whole of one, and its place and lead.
+pub struct Match {
+    pub shared: usize,
+    pub whole: bool,
+    pub place: u32,
+    pub lead: u32,
+}
+
+// Each byte of the pattern takes its bytes, and then none is left.
+pub fn match_pattern(pattern: &[u8], bytes: &[u8]) -> Match
+    ensures { λ r. ⌜ r ≡ matched (now (pattern .entry)) (now (bytes .entry)) ⌝ }
+{
+    if pattern.len() == 0 {
+        return Match {
+            shared: 0,
+            whole: bytes.len() == 0,
+            place: 0,
+            lead: 0,
+        };
+    }
+    let p = pattern[0];
+    let taken = take_piece(p, bytes);
+    let count = taken.count;
+    if count == 0 {
+        return Match {
+            shared: 0,
+            whole: false,
+            place: 0,
+            lead: 0,
+        };
+    }
+    let rest = match_pattern(&pattern[1..], &bytes[count..]);
+    join(p, taken, rest)
+}
+
+// The bytes at the front that one byte of a pattern takes.
+fn take_piece(p: u8, bytes: &[u8]) -> Scanned
+    ensures { λ r. ⌜ r ≡ piece p (now (bytes .entry)) ⌝ }
+{
+    if p == b'#' {
+        return scan(65535, bytes);
+    }
+    if p == b'%' {
+        return scan(960, bytes);
+    }
+    if bytes.len() == 0 {
+        return Scanned { count: 0, value: 0 };
+    }
+    Scanned {
+        count: (bytes[0] == p) as usize,
+        value: 0,
+    }
+}
+
+// The number at the front, up to limit, in decimal with no 0 before another digit.
+fn scan(limit: u32, bytes: &[u8]) -> Scanned
+    requires { ⌜ limit ≤ 65535 ⌝ }
+    ensures { λ r. ⌜ r ≡ scanFrom limit false 0 (now (bytes .entry)) ⌝ }
+{
+    let mut count: usize = 0;
+    let mut value: u32 = 0;
+    while count < bytes.len() {
+        let c = bytes[count];
+        if !may_follow(limit, 0 < count, value, c) {
+            return Scanned { count, value };
+        }
+        value = 10 * value + (c - b'0') as u32;
+        count += 1;
+    }
+    Scanned { count, value }
+}
+
+// Whether c is one more digit of the number of which value is read.
+fn may_follow(limit: u32, begun: bool, value: u32, c: u8) -> bool
+    requires { ⌜ value ≤ 65535 ⌝ }
+    ensures { λ r. ⌜ r ≡ mayFollow limit begun value c ⌝ }
+{
+    if c < b'0' {
+        return false;
+    }
+    if b'9' < c {
+        return false;
+    }
+    if limit < 10 * value + (c - b'0') as u32 {
+        return false;
+    }
+    if begun {
+        return value != 0;
+    }
+    true
+}
+
+// A piece that fits, and a match of what follows it.
+fn join(p: u8, taken: Scanned, rest: Match) -> Match
+    requires { ⌜ taken .count + rest .shared < 2 ^ 64 ⌝ }
+    ensures { λ r. ⌜ r ≡ joined p taken rest ⌝ }
+{
+    Match {
+        shared: taken.count + rest.shared,
+        whole: rest.whole,
+        place: pick(p == b'#', taken.value, rest.place),
+        lead: pick(p == b'%', taken.value, rest.lead),
+    }
+}
+
+fn pick(first: bool, a: u32, b: u32) -> u32
+    ensures { λ r. ⌜ r ≡ cond first a b ⌝ }
+{
+    if first {
+        return a;
+    }
+    b
+}

@@ -1,0 +1,17 @@
+pub mod Leading
+pub mod Shared
+pub mod Scanning
+pub mod Numbers
+pub mod PieceTexts
+pub mod Filling
+pub mod Matching
+pub mod MatchRanges
+pub mod Parting
+pub mod SoundRows
+pub mod KnownRows
+pub mod RowReading
+pub mod Farthest
+pub mod Sentences
+pub mod RoundTrips
+pub mod Forms
+pub mod Sizes

@@ -1,0 +1,2 @@
+// What holds of the list of sentences as a whole. Laws, and no code.
+pub mod laws;
