@@ -1,14 +1,14 @@
-// Refusals in words: the sentence of every number at several places, those that have none, and bytes that are a sentence, nearly one, or
-// none.
+// Refusals in words: the sentence of every number at several places, those that have none, and the lines of the input, which are
+// sentences, nearly sentences, or none.
+use libc::STDIN_FILENO;
+
 mod lines;
 
 fn main() {
     every_number();
     leads();
     not_written();
-    read_back();
-    nearly();
-    numbers();
+    read_input();
 }
 
 // From 0 to one more than document 02 ever names.
@@ -45,37 +45,21 @@ fn not_written() {
     lines::write_short(18, 10, 0);
 }
 
-fn read_back() {
-    lines::read(b"Refusal 6: the code or byte at place 65 cannot be sent.");
-    lines::read(b"Refusal 6: the code or byte at place 0 cannot be sent.");
-    lines::read(b"Refusal 6: the code or byte at place 65535 cannot be sent.");
-    lines::read(b"Refusal 10: the character at place 3 is unclear: its lead is 0.");
-    lines::read(b"Refusal 10: the character at place 1023 is unclear: its lead is 960.");
+// Reads each line of the input as a sentence.
+fn read_input() {
+    let mut buffer = io::buffer();
+    let n = io::read_full(STDIN_FILENO, &mut buffer);
+    read_lines(&buffer[..n]);
 }
 
-fn nearly() {
-    lines::read(b"");
-    lines::read(b"R");
-    lines::read(b"refusal 6: the code or byte at place 65 cannot be sent.");
-    lines::read(b"Refusal 6: the code");
-    lines::read(b"Refusal 6: the code or byte at place 65");
-    lines::read(b"Refusal 6: the code or byte at place 65 cannot be sent");
-    lines::read(b"Refusal 6: the code or byte at place 65 cannot be sent..");
-    lines::read(b" Refusal 6: the code or byte at place 65 cannot be sent.");
-    lines::read(b"Refusal 6: the tone at place 65 cannot be sent.");
-    lines::read(b"Refusal 0: the mode is not from 1 to 8 (place 0).");
-    lines::read(b"Refusal 99: the mode is not from 1 to 8 (place 0).");
-}
-
-fn numbers() {
-    lines::read(b"Refusal 6: the code or byte at place 65536 cannot be sent.");
-    lines::read(b"Refusal 6: the code or byte at place 70000 cannot be sent.");
-    lines::read(b"Refusal 6: the code or byte at place 065 cannot be sent.");
-    lines::read(b"Refusal 6: the code or byte at place 00 cannot be sent.");
-    lines::read(b"Refusal 6: the code or byte at place  cannot be sent.");
-    lines::read(b"Refusal 6: the code or byte at place # cannot be sent.");
-    lines::read(b"Refusal 6: the code or byte at place -1 cannot be sent.");
-    lines::read(b"Refusal 10: the character at place 3 is unclear: its lead is 961.");
-    lines::read(b"Refusal 10: the character at place 3 is unclear: its lead is 060.");
-    lines::read(b"Refusal 10: the character at place 3 is unclear: its lead is .");
+fn read_lines(bytes: &[u8]) {
+    let mut from: usize = 0;
+    let mut i: usize = 0;
+    while i < bytes.len() {
+        if bytes[i] == b'\n' {
+            lines::read(&bytes[from..i]);
+            from = i + 1;
+        }
+        i += 1;
+    }
 }
