@@ -10,6 +10,16 @@ mod matching;
 mod rows;
 mod writing;
 
+// What stands in a pattern for the place and for the lead.
+const PLACE_MARK: u8 = b'#';
+
+const LEAD_MARK: u8 = b'%';
+
+// Document 02, order 8: "places go up to 65,535 and leads up to 960".
+const MOST_PLACE: u32 = 65535;
+
+const MOST_LEAD: u32 = 960;
+
 // What bytes are read as: the refusal that the sentence came from, or 20.
 pub enum Read {
     Sentence(Refusal),

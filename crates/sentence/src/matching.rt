@@ -1,4 +1,8 @@
 // Bytes matched with a pattern.
+use super::LEAD_MARK;
+use super::MOST_LEAD;
+use super::MOST_PLACE;
+use super::PLACE_MARK;
 ghost use mathlib.Core.Path.{_≡_};
 ghost use mathlib.Core.Bool.{false, cond};
 ghost use Prim.Native.Nat.{_+_, _<_, _≤_, _^_};
@@ -49,11 +53,11 @@ pub fn match_pattern(pattern: &[u8], bytes: &[u8]) -> Match
 fn take_piece(p: u8, bytes: &[u8]) -> Scanned
     ensures { λ r. ⌜ r ≡ piece p (now (bytes .entry)) ⌝ }
 {
-    if p == b'#' {
-        return scan(65535, bytes);
+    if p == PLACE_MARK {
+        return scan(MOST_PLACE, bytes);
     }
-    if p == b'%' {
-        return scan(960, bytes);
+    if p == LEAD_MARK {
+        return scan(MOST_LEAD, bytes);
     }
     if bytes.len() == 0 {
         return Scanned { count: 0, value: 0 };
@@ -110,8 +114,8 @@ fn join(p: u8, taken: Scanned, rest: Match) -> Match
     Match {
         shared: taken.count + rest.shared,
         whole: rest.whole,
-        place: pick(p == b'#', taken.value, rest.place),
-        lead: pick(p == b'%', taken.value, rest.lead),
+        place: pick(p == PLACE_MARK, taken.value, rest.place),
+        lead: pick(p == LEAD_MARK, taken.value, rest.lead),
     }
 }
 

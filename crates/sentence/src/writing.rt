@@ -1,4 +1,8 @@
 // A pattern with its place and lead put in, written to an output.
+use super::LEAD_MARK;
+use super::MOST_LEAD;
+use super::MOST_PLACE;
+use super::PLACE_MARK;
 use super::Written;
 use refusal::Refusal;
 ghost use mathlib.Core.Path.{_≡_};
@@ -18,7 +22,7 @@ pub fn write(pattern: &[u8], place: usize, lead: u32, out: &mut [u8]) -> Written
     if pattern.len() == 0 {
         return Written::Refused(Refusal::at(refusal::SENTENCE, 0));
     }
-    if 65535 < place {
+    if (MOST_PLACE as usize) < place {
         return Written::Refused(Refusal::at(refusal::SENTENCE, 0));
     }
     if most_lead(pattern) < lead {
@@ -36,8 +40,8 @@ fn most_lead(pattern: &[u8]) -> u32
 {
     let mut i: usize = 0;
     while i < pattern.len() {
-        if pattern[i] == b'%' {
-            return 960;
+        if pattern[i] == LEAD_MARK {
+            return MOST_LEAD;
         }
         i += 1;
     }
@@ -60,10 +64,10 @@ fn filled_length(pattern: &[u8], place: usize, lead: u32) -> usize
 fn piece_length(p: u8, place: usize, lead: u32) -> usize
     ensures { λ r. ⌜ r ≡ length (pieceText place lead p) ⌝ }
 {
-    if p == b'#' {
+    if p == PLACE_MARK {
         return text::decimal_length(place as u64);
     }
-    if p == b'%' {
+    if p == LEAD_MARK {
         return text::decimal_length(lead as u64);
     }
     1
@@ -88,10 +92,10 @@ fn put_piece(p: u8, place: usize, lead: u32, out: &mut [u8]) -> usize
     ensures answer { λ r. ⌜ r ≡ length (written (pieceText place lead p) (length (now (out .entry)))) ⌝ }
     ensures output { λ _. ⌜ now (out .exit) ≡ over (written (pieceText place lead p) (length (now (out .entry)))) (now (out .entry)) ⌝ }
 {
-    if p == b'#' {
+    if p == PLACE_MARK {
         return text::put_decimal(place as u64, out);
     }
-    if p == b'%' {
+    if p == LEAD_MARK {
         return text::put_decimal(lead as u64, out);
     }
     text::put_text(&[p], out)

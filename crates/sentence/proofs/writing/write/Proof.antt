@@ -16,6 +16,9 @@ returns c =
     let w = no-pattern (a .pattern .now) (a .place) (a .lead) (a .out .now) (omega arith) in
     (ap Refused (c .at .ensures) ∙ w .0, w .1)
 
+cast-if2 : tie.Need-cast-if2
+cast-if2 c = search needs
+
 at-requires-2 : tie.Need-at-requires-2
 at-requires-2 c κs = search needs
 
@@ -72,6 +75,7 @@ write-spec =
     (tie.spec
     at-requires
     returns
+    cast-if2
     at-requires-2
     returns-2
     most-lead-requires
