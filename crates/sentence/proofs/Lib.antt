@@ -1,8 +1,10 @@
 pub mod Soundness
 pub mod Following
 pub mod Pieces
+pub mod Marks
 pub mod ScanCases
 pub mod PieceCases
+pub mod MatchCases
 pub mod Tables
 pub mod RowCases
 pub mod Fillings

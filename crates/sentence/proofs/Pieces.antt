@@ -6,11 +6,10 @@ use Prim.Native.Nat.{ℕ, _+_, _-_, _*_, _≤_}
 use native.Mathlib.Omega.{arith}
 use borrow.Author.Tests.{eqb-true, ne-eqb}
 use lib.Dec.{eqb}
-use lib.ListN.{length, drop, length-drop}
+use lib.ListN.{length}
 use Rattle.sentence.specs.declared.matching.Scanned.{Scanned}
-use Rattle.sentence.specs.declared.matching.Match.{Match}
 use Rattle.sentence.specs.Patterns.{placeMark, leadMark, mostPlace, mostLead}
-use Rattle.sentence.specs.Reading.{mayFollow, oneMore, scanFrom, startsWith, piece, noMatch, joined, withPiece, matched}
+use Rattle.sentence.specs.Reading.{mayFollow, oneMore, scanFrom, startsWith, piece}
 
 -- a byte of a pattern is the place's mark, the lead's, or text
 pub data Kind (p : ℕ) : Type 0 where
@@ -57,18 +56,3 @@ piece-inside p bytes = by (kind p)
     by (place e f) = rw e (scan-inside mostPlace false 0 bytes)
     by (lead e f) = rw (e, f) (scan-inside mostLead false 0 bytes)
     by (text e f) = rw (e, f) (byte-inside p bytes)
-
-pub match-inside : (ps bytes : List ℕ) → matched ps bytes .shared ≤ length bytes
-unfolding matched withPiece
-match-inside [] bytes = omega arith
-match-inside (p ∷ ps) bytes = by (eqb (piece p bytes .count) 0) (match-inside ps (drop (piece p bytes .count) bytes))
-  where
-    s : Scanned
-    s = piece p bytes
-
-    more : Match
-    more = matched ps (drop (s .count) bytes)
-
-    by : (t : Bool) → more .shared ≤ length (drop (s .count) bytes) → cond t noMatch (joined p s more) .shared ≤ length bytes
-    by true h = omega arith
-    by false h = omega (arith, piece-inside p bytes, length-drop (s .count) bytes)

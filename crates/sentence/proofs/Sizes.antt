@@ -28,9 +28,9 @@ pattern-in-table [] n = omega arith
 pattern-in-table (r ∷ rs) n = by (eqb (r .number) n) (pattern-in-table rs n)
   where
     by : (t : Bool) → length (patternIn rs n) ≤ length (flat rs)
-        → length (cond t (r .pattern) (patternIn rs n)) ≤ length (r .number ∷ (r .pattern ++ (0 ∷ flat rs)))
-    by true h = omega (arith, length-append (r .pattern) (0 ∷ flat rs))
-    by false h = omega (arith, length-append (r .pattern) (0 ∷ flat rs))
+        → length (cond t (r .pattern) (patternIn rs n)) ≤ length (r .number ∷ (length (r .pattern) ∷ (r .pattern ++ flat rs)))
+    by true h = omega (arith, length-append (r .pattern) (flat rs))
+    by false h = omega (arith, length-append (r .pattern) (flat rs))
 
 pub pattern-short : (n : ℕ) → length (patternIn sentences n) ≤ 65535
 pattern-short n = omega (arith, pattern-in-table sentences n, leb-true (length (flat sentences)) 65535 table-computed)

@@ -1,11 +1,9 @@
 -- What only private contracts need: the list as the bytes of a table, and writing by a pattern.
-use mathlib.Core.Bool.{Bool, cond, not}
+use mathlib.Core.Bool.{cond, not}
 use mathlib.Core.List.{List, [], _∷_, _++_}
 use Prim.Native.Nat.{ℕ}
-use lib.Dec.{ltb, eqb}
+use lib.Dec.{ltb}
 use lib.ListN.{length}
-use Rattle.lists.specs.Lists.{num}
-use Rattle.lists.specs.Places.{first}
 use Rattle.refusal.specs.Refused.{refusedAt}
 use Rattle.sentence.specs.declared.Written.{Written}
 use Rattle.sentence.specs.declared.Written.the-variants.{Length, Refused}
@@ -13,17 +11,10 @@ use Rattle.sentence.specs.Patterns.{filled, shows}
 use Rattle.sentence.specs.Sentences.{Row}
 use Rattle.sentence.specs.Writing.{textInto}
 
--- each row is its number, its pattern and a 0
+-- each row is its number, the length of its pattern, and its pattern
 unfoldable pub flat : List Row → List ℕ
 flat [] = []
-flat (r ∷ rs) = r .number ∷ (r .pattern ++ (0 ∷ flat rs))
-
-abbrev pub isZeroAt : List ℕ → ℕ → Bool
-isZeroAt bytes i = eqb (num bytes i) 0
-
--- the count of bytes before the first 0
-unfoldable pub beforeZero : List ℕ → ℕ
-beforeZero bytes = first (isZeroAt bytes) (length bytes)
+flat (r ∷ rs) = r .number ∷ (length (r .pattern) ∷ (r .pattern ++ flat rs))
 
 unfoldable pub writePattern : List ℕ → ℕ → ℕ → ℕ → Written
 writePattern pattern place lead room =

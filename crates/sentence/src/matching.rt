@@ -4,9 +4,10 @@ use super::MOST_LEAD;
 use super::MOST_PLACE;
 use super::PLACE_MARK;
 ghost use mathlib.Core.Path.{_≡_};
-ghost use mathlib.Core.Bool.{false, cond};
-ghost use Prim.Native.Nat.{_+_, _<_, _≤_, _^_};
-ghost use Rattle.sentence.specs.Reading.{mayFollow, scanFrom, piece, joined, matched};
+ghost use mathlib.Core.Bool.{true, false, cond};
+ghost use Prim.Native.Nat.{_≤_};
+ghost use Rattle.sentence.specs.Condition.{isPattern};
+ghost use Rattle.sentence.specs.Reading.{mayFollow, scanFrom, piece, matched};
 
 // Digits at the front, and their value.
 pub struct Scanned {
@@ -24,29 +25,35 @@ pub struct Match {
 
 // Each byte of the pattern takes its bytes, and then none is left.
 pub fn match_pattern(pattern: &[u8], bytes: &[u8]) -> Match
+    requires { ⌜ isPattern (now pattern) ≡ true ⌝ }
     ensures { λ r. ⌜ r ≡ matched (now (pattern .entry)) (now (bytes .entry)) ⌝ }
 {
-    if pattern.len() == 0 {
-        return Match {
-            shared: 0,
-            whole: bytes.len() == 0,
-            place: 0,
-            lead: 0,
-        };
+    let mut at: usize = 0;
+    let mut place: u32 = 0;
+    let mut lead: u32 = 0;
+    let mut i: usize = 0;
+    while i < pattern.len() {
+        let p = pattern[i];
+        let taken = take_piece(p, &bytes[at..]);
+        if taken.count == 0 {
+            return Match {
+                shared: at,
+                whole: false,
+                place,
+                lead,
+            };
+        }
+        place = pick(p == PLACE_MARK, taken.value, place);
+        lead = pick(p == LEAD_MARK, taken.value, lead);
+        at += taken.count;
+        i += 1;
     }
-    let p = pattern[0];
-    let taken = take_piece(p, bytes);
-    let count = taken.count;
-    if count == 0 {
-        return Match {
-            shared: 0,
-            whole: false,
-            place: 0,
-            lead: 0,
-        };
+    Match {
+        shared: at,
+        whole: at == bytes.len(),
+        place,
+        lead,
     }
-    let rest = match_pattern(&pattern[1..], &bytes[count..]);
-    join(p, taken, rest)
 }
 
 // The bytes at the front that one byte of a pattern takes.
@@ -104,19 +111,6 @@ fn may_follow(limit: u32, begun: bool, value: u32, c: u8) -> bool
         return value != 0;
     }
     true
-}
-
-// A piece that fits, and a match of what follows it.
-fn join(p: u8, taken: Scanned, rest: Match) -> Match
-    requires { ⌜ taken .count + rest .shared < 2 ^ 64 ⌝ }
-    ensures { λ r. ⌜ r ≡ joined p taken rest ⌝ }
-{
-    Match {
-        shared: taken.count + rest.shared,
-        whole: rest.whole,
-        place: pick(p == PLACE_MARK, taken.value, rest.place),
-        lead: pick(p == LEAD_MARK, taken.value, rest.lead),
-    }
 }
 
 fn pick(first: bool, a: u32, b: u32) -> u32

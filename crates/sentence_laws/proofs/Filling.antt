@@ -1,6 +1,6 @@
--- Patterns and their texts: what a pattern's first byte asks of the rest, and where a text shows its place and its lead.
+-- Patterns and their texts: what follows a mark, and where a text shows its place and its lead.
 use mathlib.Core.Path.{_≡_, refl, ap}
-use mathlib.Core.Bool.{Bool, true, false, cond, not, _&&_, _||_, and-eq-true-iff}
+use mathlib.Core.Bool.{Bool, true, false, cond, not, _||_, and-eq-true-iff}
 use mathlib.Core.List.{List, [], _∷_, _++_}
 use Prim.Native.Nat.{ℕ}
 use native.Mathlib.Omega.{arith}
@@ -10,8 +10,9 @@ use lib.ListN.{length}
 use Rattle.text.specs.Decimal.{isDigit, decimal}
 use Rattle.sentence.specs.declared.matching.Match.{Match}
 use Rattle.sentence.specs.Patterns.{placeMark, leadMark, pieceText, filled, has}
-use Rattle.sentence.specs.Condition.{isMark, endsNumber, isPattern}
+use Rattle.sentence.specs.Condition.{isMark, endsNumber}
 use Rattle.sentence.proofs.Pieces.{Kind, kind}
+use Rattle.sentence.proofs.Marks.{Pattern}
 use Rattle.sentence_laws.proofs.Leading.{front}
 use Rattle.sentence_laws.proofs.Scanning.{plain}
 use Rattle.sentence_laws.proofs.PieceTexts.{Ends}
@@ -32,27 +33,7 @@ pub text-byte : (q l p : ℕ) → isMark p ≡ false → pieceText q l p ≡ p �
 unfolding pieceText
 text-byte q l p e = let n = no-mark p e in rw (n .0, n .1)
 
--- ---- a pattern's first byte, and the rest
-
-pub record Pattern (p : ℕ) (ps : List ℕ) : Type 0 where
-  pub once : isMark p ≡ true → has p ps ≡ false
-  pub ends : isMark p ≡ true → endsNumber ps ≡ true
-  pub rest : isPattern ps ≡ true
-
-pub pattern : (p : ℕ) (ps : List ℕ) → isPattern (p ∷ ps) ≡ true → Pattern p ps
-unfolding isPattern
-pattern p ps e = by (isMark p) refl e
-  where
-    by : (t : Bool) → isMark p ≡ t → cond t (not (has p ps) && endsNumber ps && isPattern ps) (isPattern ps) ≡ true → Pattern p ps
-    by false m h = record {
-      once = λ k. (let z : _≡_ {A = ℕ} 0 1 = cc in absurd (omega arith));
-      ends = λ k. (let z : _≡_ {A = ℕ} 0 1 = cc in absurd (omega arith));
-      rest = h;
-    }
-    by true m h =
-        let a = and-eq-true-iff (not (has p ps) && endsNumber ps) (isPattern ps) .0 h in
-        let b = and-eq-true-iff (not (has p ps)) (endsNumber ps) .0 (a .0) in
-        record { once = λ k. not-true (has p ps) (b .0); ends = λ k. b .1; rest = a .1 }
+-- ---- what follows a mark
 
 plain-filled : (q l : ℕ) (ps : List ℕ) → endsNumber ps ≡ true → plain (filled q l ps) ≡ true
 unfolding plain filled endsNumber

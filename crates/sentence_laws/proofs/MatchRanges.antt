@@ -1,8 +1,8 @@
 -- The place and the lead found by matching are in range, and there is no lead without its mark.
 use mathlib.Core.Path.{_≡_, refl}
-use mathlib.Core.Bool.{Bool, true, false, cond, _||_}
+use mathlib.Core.Bool.{Bool, true, false, cond}
 use mathlib.Core.List.{List, [], _∷_}
-use Prim.Native.Nat.{ℕ, _+_, _≤_}
+use Prim.Native.Nat.{ℕ, _≤_}
 use native.Mathlib.Omega.{arith}
 use lib.Dec.{eqb}
 use lib.ListN.{drop}
@@ -10,6 +10,7 @@ use Rattle.sentence.specs.declared.matching.Scanned.{Scanned}
 use Rattle.sentence.specs.declared.matching.Match.{Match}
 use Rattle.sentence.specs.Patterns.{placeMark, leadMark, mostPlace, mostLead, has, mostLeadOf}
 use Rattle.sentence.specs.Reading.{piece, noMatch, joined, withPiece, matched}
+use Rattle.sentence.proofs.Marks.{match-no-lead}
 use Rattle.sentence_laws.proofs.PieceTexts.{piece-place, piece-lead}
 
 record InRange (m : Match) : Type 0 where
@@ -38,27 +39,6 @@ match-range (p ∷ ps) bytes = by (eqb (s .count) 0) (match-range ps (drop (s .c
     by : (t : Bool) → InRange more → InRange (cond t noMatch (joined p s more))
     by true r = record { place = omega arith; lead = omega arith }
     by false r = record { place = at-place (eqb p placeMark) refl (r .place); lead = at-lead (eqb p leadMark) refl (r .lead) }
-
-match-no-lead : (ps bytes : List ℕ) → has leadMark ps ≡ false → matched ps bytes .lead ≡ 0
-unfolding matched withPiece has
-match-no-lead [] bytes e = refl
-match-no-lead (p ∷ ps) bytes e = by (eqb (s .count) 0) (eqb p leadMark) e (match-no-lead ps (drop (s .count) bytes))
-  where
-    s : Scanned
-    s = piece p bytes
-
-    more : Match
-    more = matched ps (drop (s .count) bytes)
-
-    by : (t u : Bool) → u || has leadMark ps ≡ false → (has leadMark ps ≡ false → more .lead ≡ 0) → cond t noMatch (record {
-      shared = s .count + more .shared;
-      whole = more .whole;
-      place = cond (eqb p placeMark) (s .value) (more .place);
-      lead = cond u (s .value) (more .lead);
-    }) .lead ≡ 0
-    by true u h r = refl
-    by false true h r = let z : _≡_ {A = ℕ} 0 1 = cc in absurd (omega arith)
-    by false false h r = r h
 
 pub matched-place : (ps bytes : List ℕ) → matched ps bytes .place ≤ mostPlace
 matched-place ps bytes = match-range ps bytes .place

@@ -13,10 +13,11 @@ use Rattle.sentence.specs.Patterns.{placeMark, leadMark, mostPlace, mostLead, p
 use Rattle.sentence.specs.Condition.{isPattern}
 use Rattle.sentence.specs.Reading.{piece, noMatch, joined, withPiece, matched}
 use Rattle.sentence.proofs.Pieces.{Kind, kind, piece-inside}
+use Rattle.sentence.proofs.Marks.{Pattern, pattern}
 use Rattle.sentence_laws.proofs.Shared.{shared, shared-nothing, shared-after}
 use Rattle.sentence_laws.proofs.Numbers.{reach}
 use Rattle.sentence_laws.proofs.PieceTexts.{piece-taken, numberAt, piece-whole, piece-most}
-use Rattle.sentence_laws.proofs.Filling.{Pattern, pattern, filled-ends, rest-same, text-some}
+use Rattle.sentence_laws.proofs.Filling.{filled-ends, rest-same, text-some}
 
 -- ---- one piece more
 

@@ -15,7 +15,7 @@ use Rattle.sentence.specs.Sentences.{sentences, patternIn, sentenceIn, isKnown,
 use Rattle.sentence.specs.Reading.{readSentence}
 use Rattle.sentence.specs.Writing.{writeSentence}
 use Rattle.sentence.proofs.Sizes.{pattern-short, filled-short, writtenCarries, readCarries}
-use Rattle.sentence_laws.specs.Meaning.{IsSentence, IsNone, Means}
+use Rattle.sentence_laws.specs.Meaning.{Means}
 use Rattle.sentence_laws.proofs.KnownRows.{Known, known}
 use Rattle.sentence_laws.proofs.RowReading.{lead-small}
 use Rattle.sentence_laws.proofs.Sentences.{reading}
