@@ -1,17 +1,17 @@
 -- The marks of a pattern: what its first byte asks of the rest, and that without a mark no number is found.
-use mathlib.Core.Path.{_≡_, refl}
+use mathlib.Core.Path.{_≡_, refl, _∙_}
 use mathlib.Core.Bool.{Bool, true, false, cond, not, _&&_, _||_, and-eq-true-iff}
 use mathlib.Core.List.{List, [], _∷_}
-use Prim.Native.Nat.{ℕ, _+_}
+use Prim.Native.Nat.{ℕ}
 use native.Mathlib.Omega.{arith}
 use borrow.Author.Tests.{not-true}
 use lib.Dec.{eqb}
 use lib.ListN.{drop}
 use Rattle.sentence.specs.declared.matching.Scanned.{Scanned}
 use Rattle.sentence.specs.declared.matching.Match.{Match}
-use Rattle.sentence.specs.Patterns.{placeMark, leadMark, has}
+use Rattle.sentence.specs.Patterns.{placeMark, leadMark, isEmpty, has}
 use Rattle.sentence.specs.Condition.{isMark, endsNumber, isPattern}
-use Rattle.sentence.specs.Reading.{piece, noMatch, withPiece, matched}
+use Rattle.sentence.specs.Reading.{piece, noMatch, joined, withPiece, matched}
 
 -- ---- a pattern's first byte, and the rest
 
@@ -37,44 +37,30 @@ pattern p ps e = by (isMark p) refl e
 
 -- ---- without its mark a number is 0
 
+pub or-parts : (s t : Bool) → s || t ≡ false → (s ≡ false) × (t ≡ false)
+or-parts true t e = let z : _≡_ {A = ℕ} 0 1 = cc in absurd (omega arith)
+or-parts false t e = (refl, e)
+
+-- a number of a match that only its mark changes
+module _ (mark : ℕ) (number : Match → ℕ) (none : (t : Bool) → number (record { shared = 0; whole = t; place = 0; lead = 0 }) ≡ 0) where
+  module _ (kept : (p : ℕ) (s : Scanned) (m : Match) → eqb p mark ≡ false → number (joined p s m) ≡ number m) where
+    no-mark-none : (ps bytes : List ℕ) → has mark ps ≡ false → number (matched ps bytes) ≡ 0
+    unfolding matched withPiece has
+    no-mark-none [] bytes e = none (isEmpty bytes)
+    no-mark-none (p ∷ ps) bytes e = by (eqb (s .count) 0) (no-mark-none ps (drop (s .count) bytes))
+      where
+        s : Scanned
+        s = piece p bytes
+
+        more : Match
+        more = matched ps (drop (s .count) bytes)
+
+        by : (t : Bool) → (has mark ps ≡ false → number more ≡ 0) → number (cond t noMatch (joined p s more)) ≡ 0
+        by true r = none false
+        by false r = let (other, later) = or-parts (eqb p mark) (has mark ps) e in kept p s more other ∙ r later
+
 pub match-no-place : (ps bytes : List ℕ) → has placeMark ps ≡ false → matched ps bytes .place ≡ 0
-unfolding matched withPiece has
-match-no-place [] bytes e = refl
-match-no-place (p ∷ ps) bytes e = by (eqb (s .count) 0) (eqb p placeMark) e (match-no-place ps (drop (s .count) bytes))
-  where
-    s : Scanned
-    s = piece p bytes
-
-    more : Match
-    more = matched ps (drop (s .count) bytes)
-
-    by : (t u : Bool) → u || has placeMark ps ≡ false → (has placeMark ps ≡ false → more .place ≡ 0) → cond t noMatch (record {
-      shared = s .count + more .shared;
-      whole = more .whole;
-      place = cond u (s .value) (more .place);
-      lead = cond (eqb p leadMark) (s .value) (more .lead);
-    }) .place ≡ 0
-    by true u h r = refl
-    by false true h r = let z : _≡_ {A = ℕ} 0 1 = cc in absurd (omega arith)
-    by false false h r = r h
+match-no-place = no-mark-none placeMark (λ m. m .place) (λ t. refl) (λ p s m e. rw e)
 
 pub match-no-lead : (ps bytes : List ℕ) → has leadMark ps ≡ false → matched ps bytes .lead ≡ 0
-unfolding matched withPiece has
-match-no-lead [] bytes e = refl
-match-no-lead (p ∷ ps) bytes e = by (eqb (s .count) 0) (eqb p leadMark) e (match-no-lead ps (drop (s .count) bytes))
-  where
-    s : Scanned
-    s = piece p bytes
-
-    more : Match
-    more = matched ps (drop (s .count) bytes)
-
-    by : (t u : Bool) → u || has leadMark ps ≡ false → (has leadMark ps ≡ false → more .lead ≡ 0) → cond t noMatch (record {
-      shared = s .count + more .shared;
-      whole = more .whole;
-      place = cond (eqb p placeMark) (s .value) (more .place);
-      lead = cond u (s .value) (more .lead);
-    }) .lead ≡ 0
-    by true u h r = refl
-    by false true h r = let z : _≡_ {A = ℕ} 0 1 = cc in absurd (omega arith)
-    by false false h r = r h
+match-no-lead = no-mark-none leadMark (λ m. m .lead) (λ t. refl) (λ p s m e. rw e)

@@ -1,6 +1,6 @@
 -- Patterns and their texts: what follows a mark, and where a text shows its place and its lead.
-use mathlib.Core.Path.{_≡_, refl, ap}
-use mathlib.Core.Bool.{Bool, true, false, cond, not, _||_, and-eq-true-iff}
+use mathlib.Core.Path.{_≡_, refl, ap₂}
+use mathlib.Core.Bool.{true, false, cond, not, and-eq-true-iff}
 use mathlib.Core.List.{List, [], _∷_, _++_}
 use Prim.Native.Nat.{ℕ}
 use native.Mathlib.Omega.{arith}
@@ -12,7 +12,7 @@ use Rattle.sentence.specs.declared.matching.Match.{Match}
 use Rattle.sentence.specs.Patterns.{placeMark, leadMark, pieceText, filled, has}
 use Rattle.sentence.specs.Condition.{isMark, endsNumber}
 use Rattle.sentence.proofs.Pieces.{Kind, kind}
-use Rattle.sentence.proofs.Marks.{Pattern}
+use Rattle.sentence.proofs.Marks.{Pattern, or-parts}
 use Rattle.sentence_laws.proofs.Leading.{front}
 use Rattle.sentence_laws.proofs.Scanning.{plain}
 use Rattle.sentence_laws.proofs.PieceTexts.{Ends}
@@ -21,12 +21,7 @@ use Rattle.sentence_laws.proofs.PieceTexts.{Ends}
 
 no-mark : (p : ℕ) → isMark p ≡ false → (eqb p placeMark ≡ false) × (eqb p leadMark ≡ false)
 unfolding isMark
-no-mark p e = by (eqb p placeMark) (eqb p leadMark) e
-  where
-    by : (s t : Bool) → s || t ≡ false → (s ≡ false) × (t ≡ false)
-    by true t h = let z : _≡_ {A = ℕ} 0 1 = cc in absurd (omega arith)
-    by false true h = let z : _≡_ {A = ℕ} 0 1 = cc in absurd (omega arith)
-    by false false h = (refl, refl)
+no-mark p e = or-parts (eqb p placeMark) (eqb p leadMark) e
 
 -- a byte that is no mark stands for itself
 pub text-byte : (q l p : ℕ) → isMark p ≡ false → pieceText q l p ≡ p ∷ []
@@ -47,29 +42,22 @@ filled-ends q l p ps parts m = plain-filled q l ps (parts .ends m)
 
 -- ---- where the place and the lead are shown
 
-filled-no-place : (q r l : ℕ) (ps : List ℕ) → has placeMark ps ≡ false → filled q l ps ≡ filled r l ps
-unfolding filled has pieceText
-filled-no-place q r l [] e = refl
-filled-no-place q r l (p ∷ ps) e = by (eqb p placeMark) e (filled-no-place q r l ps)
-  where
-    text : List ℕ
-    text = cond (eqb p leadMark) (decimal l) (p ∷ [])
+-- two texts that can differ only at a mark, of a pattern without it
+filled-no-mark : (mark q l r k : ℕ) → ((p : ℕ) → eqb p mark ≡ false → pieceText q l p ≡ pieceText r k p) → (ps : List ℕ) → has mark ps ≡ false
+    → filled q l ps ≡ filled r k ps
+unfolding filled has
+filled-no-mark mark q l r k same [] e = refl
+filled-no-mark mark q l r k same (p ∷ ps) e =
+    let (other, later) = or-parts (eqb p mark) (has mark ps) e in
+    ap₂ _++_ (same p other) (filled-no-mark mark q l r k same ps later)
 
-    by : (t : Bool) → t || has placeMark ps ≡ false → (has placeMark ps ≡ false → filled q l ps ≡ filled r l ps)
-        → cond t (decimal q) text ++ filled q l ps ≡ cond t (decimal r) text ++ filled r l ps
-    by true h ih = let z : _≡_ {A = ℕ} 0 1 = cc in absurd (omega arith)
-    by false h ih = ap (λ (x : List ℕ). text ++ x) (ih h)
+filled-no-place : (q r l : ℕ) (ps : List ℕ) → has placeMark ps ≡ false → filled q l ps ≡ filled r l ps
+unfolding pieceText
+filled-no-place q r l = filled-no-mark placeMark q l r l (λ p e. rw e)
 
 filled-no-lead : (q l k : ℕ) (ps : List ℕ) → has leadMark ps ≡ false → filled q l ps ≡ filled q k ps
-unfolding filled has pieceText
-filled-no-lead q l k [] e = refl
-filled-no-lead q l k (p ∷ ps) e = by (eqb p leadMark) e (filled-no-lead q l k ps)
-  where
-    by : (t : Bool) → t || has leadMark ps ≡ false → (has leadMark ps ≡ false → filled q l ps ≡ filled q k ps)
-        → cond (eqb p placeMark) (decimal q) (cond t (decimal l) (p ∷ [])) ++ filled q l ps
-        ≡ cond (eqb p placeMark) (decimal q) (cond t (decimal k) (p ∷ [])) ++ filled q k ps
-    by true h ih = let z : _≡_ {A = ℕ} 0 1 = cc in absurd (omega arith)
-    by false h ih = ap (λ (x : List ℕ). cond (eqb p placeMark) (decimal q) (p ∷ []) ++ x) (ih h)
+unfolding pieceText
+filled-no-lead q l k = filled-no-mark leadMark q l q k (λ p e. rw e)
 
 -- a number at the first byte changes nothing in the rest's text
 pub rest-same : (p v : ℕ) (ps : List ℕ) (m : Match) → Pattern p ps
