@@ -49,7 +49,7 @@ unfolding filled has
 filled-no-mark mark q l r k same [] e = refl
 filled-no-mark mark q l r k same (p ∷ ps) e =
     let (other, later) = or-parts (eqb p mark) (has mark ps) e in
-    ap₂ _++_ (same p other) (filled-no-mark mark q l r k same ps later)
+    ap₂ (λ (x y : List ℕ). x ++ y) (same p other) (filled-no-mark mark q l r k same ps later)
 
 filled-no-place : (q r l : ℕ) (ps : List ℕ) → has placeMark ps ≡ false → filled q l ps ≡ filled r l ps
 unfolding pieceText
