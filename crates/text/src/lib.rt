@@ -67,9 +67,9 @@ pub fn decimal_length(n: u64) -> usize
     ensures { λ r. ⌜ r ≡ length (decimal n) ⌝ }
 {
     let mut count: usize = 1;
-    let mut left = n;
-    while 10 <= left {
-        left = left / 10;
+    let mut rest = n;
+    while 10 <= rest {
+        rest = rest / 10;
         count += 1;
     }
     count

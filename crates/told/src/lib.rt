@@ -237,18 +237,22 @@ pub fn read(answer: Read) -> ReadAnswer
     ensures { λ r. ⌜ r ≡ readTold (readCapped answer) ⌝ }
 {
     match answer {
-        Read::Sentence(refusal) => ReadAnswer {
-            answer: accepted(0),
-            number: refusal.number as u32,
-            place: capped(refusal.place),
-            lead: refusal.lead,
-        },
-        Read::Refused(refusal) => ReadAnswer {
-            answer: refused(refusal),
-            number: 0,
-            place: 0,
-            lead: 0,
-        },
+        Read::Sentence(refusal) => {
+            let told = refused(refusal);
+            said(accepted(0), told.number, told.place, told.lead)
+        }
+        Read::Refused(refusal) => said(refused(refusal), 0, 0, 0),
+    }
+}
+
+fn said(answer: Answer, number: u32, place: u32, lead: u32) -> ReadAnswer
+    ensures { λ r. ⌜ r ≡ record { answer = answer; number = number; place = place; lead = lead } ⌝ }
+{
+    ReadAnswer {
+        answer,
+        number,
+        place,
+        lead,
     }
 }
 

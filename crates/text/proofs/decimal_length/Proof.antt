@@ -9,10 +9,10 @@ use Rattle.text.proofs.decimal_length.Statement.{statement}
 use Rattle.text.proofs.decimal_length.Tie as tie
 
 abbrev Inv-loop : tie.InvT-loop
-Inv-loop n count₀ left₀ count left = count + length (decimal left) ≡ length (decimal n) + 1
+Inv-loop n count₀ rest₀ count rest = count + length (decimal rest) ≡ length (decimal n) + 1
 
 abbrev μ-loop : tie.MeasureT-loop
-μ-loop n count₀ left₀ count left = left
+μ-loop n count₀ rest₀ count rest = rest
 
 loop-holds : tie.Need-loop-holds Inv-loop μ-loop
 loop-holds c = omega arith
@@ -24,10 +24,10 @@ loop-less : tie.Need-loop-less Inv-loop μ-loop
 loop-less c = omega arith
 
 loop-again : tie.Need-loop-again Inv-loop μ-loop
-loop-again c = omega (arith, c .before .loop .inv, decimal-more-length (c .before .loop .left) (omega arith))
+loop-again c = omega (arith, c .before .loop .inv, decimal-more-length (c .before .loop .rest) (omega arith))
 
 returns : tie.Need-returns Inv-loop μ-loop
-returns c = omega (arith, c .before .loop .inv, ap length (decimal-small (c .before .loop .left) (omega arith)))
+returns c = omega (arith, c .before .loop .inv, ap length (decimal-small (c .before .loop .rest) (omega arith)))
 
 pub decimal-length-spec : {M : Type 1} → statement M
 decimal-length-spec = tie.close (tie.spec Inv-loop μ-loop loop-holds add-count loop-less loop-again returns)
