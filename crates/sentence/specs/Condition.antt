@@ -1,4 +1,4 @@
--- The one condition on a list of sentences, which the checker computes. All that holds of the list as a whole follows from it.
+-- The condition on a list of sentences, which the checker computes. The laws of `sentence_laws` follow from it for any list that has a row.
 use mathlib.Core.Bool.{Bool, true, false, cond, not, _&&_, _||_}
 use mathlib.Core.List.{List, [], _∷_, _++_}
 use Prim.Native.Nat.{ℕ}

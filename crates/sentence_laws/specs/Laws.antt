@@ -1,5 +1,5 @@
 -- The laws of sentences: document 02, order 8. Each is the promise of the function of the same name in src/laws.rt. They are of the list as
--- a whole, and follow from the one condition on it that is computed, `sentence::laws::sound`.
+-- a whole, and follow from the condition on it that is computed, `sentence::laws::sound`; `Reading` also from there being a row.
 use mathlib.Core.Bool.{true}
 use mathlib.Core.List.{List, _++_}
 use mathlib.Core.Path.{_≡_}
