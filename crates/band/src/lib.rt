@@ -14,28 +14,28 @@ use refusal::{Refusal, checks};
 pub mod laws;
 
 // The lower edge and the spacing of the tones, in Hz.
-#[derive(Drop)]
+#[derive(Clone, Copy)]
 pub struct Band {
     pub edge: f64,
     pub spacing: f64,
 }
 
 // The band, or the refusal.
-#[derive(Drop)]
+#[derive(Clone, Copy)]
 pub enum Planned {
     Band(Band),
     Refused(Refusal),
 }
 
 // The frequency in Hz, or the refusal.
-#[derive(Drop)]
+#[derive(Clone, Copy)]
 pub enum Tuned {
     Hertz(f64),
     Refused(Refusal),
 }
 
 // The tone that a measurement belongs to and how many Hz it is off that tone, or why there is none.
-#[derive(Drop)]
+#[derive(Clone, Copy)]
 pub enum Located {
     Heard(u16, f64),
     NotFinite,

@@ -16,14 +16,14 @@ pub const GREATEST_WEIGHT: u8 = 15;
 pub const PLAIN_WEIGHT: u8 = 1;
 
 // The count of codes written, or the refusal.
-#[derive(Drop)]
+#[derive(Clone, Copy)]
 pub enum Decoded {
     Text(usize),
     Refused(Refusal),
 }
 
 // The answer, and the decisions on the mode's characters that it rests on, also where that is refusal 10; the rest of the eight are NONE.
-#[derive(Drop)]
+#[derive(Clone, Copy)]
 pub struct BlockDecoded {
     pub answer: Decoded,
     pub characters: [Character; 8],

@@ -12,14 +12,14 @@ use refusal::{Refusal, checks};
 mod symbols;
 
 // The count of tones written, or the refusal.
-#[derive(Drop)]
+#[derive(Clone, Copy)]
 pub enum Encoded {
     Tones(usize),
     Refused(Refusal),
 }
 
 // The codes are a block of the mode, or the refusal.
-#[derive(Drop)]
+#[derive(Clone, Copy)]
 pub enum Checked {
     Right,
     Refused(Refusal),

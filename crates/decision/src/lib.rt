@@ -3,7 +3,7 @@ pub mod laws;
 
 // A decided character: its 7-bit code, and document 01's lead, the decision's margin over its nearest rival; then why, the word that won
 // and the word that came next, each with its signed correlation.
-#[derive(Drop)]
+#[derive(Clone, Copy)]
 pub struct Character {
     pub code: u8,
     pub lead: u32,

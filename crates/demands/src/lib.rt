@@ -5,7 +5,7 @@ use block_encoder::Encoded;
 pub mod laws;
 
 // The answers of the three calls, and document 01's r and u.
-#[derive(Drop)]
+#[derive(Clone, Copy)]
 pub struct Trial {
     pub encoded: Encoded,
     pub first: BlockDecoded,

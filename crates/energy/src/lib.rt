@@ -14,20 +14,20 @@ use chain::{MISSING, gray, interleaver};
 use refusal::{Refusal, checks};
 
 // What each of the sums equals, or the refusal.
-#[derive(Drop)]
+#[derive(Clone, Copy)]
 pub enum Totalled {
     Total(u32),
     Refused(Refusal),
 }
 
 // The answer, and for each of the mode's characters the sum of its 64 squared correlations; the rest of the eight are 0, and all on a refusal.
-#[derive(Drop)]
+#[derive(Clone, Copy)]
 pub struct Energies {
     pub answer: Totalled,
     pub sums: [u32; 8],
 }
 
-#[derive(Drop)]
+#[derive(Clone, Copy)]
 struct Heard {
     symbols: [u8; 64],
     weights: [u8; 64],

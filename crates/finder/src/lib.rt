@@ -10,14 +10,14 @@ use refusal::{Refusal, checks};
 use search::LONGEST_RUN;
 
 // The start of the block found, or the refusal.
-#[derive(Drop)]
+#[derive(Clone, Copy)]
 pub enum Finding {
     Start(usize),
     Refused(Refusal),
 }
 
 // The answer, and the decisions on the characters of the block found; all are NONE on a refusal.
-#[derive(Drop)]
+#[derive(Clone, Copy)]
 pub struct BlockFound {
     pub answer: Finding,
     pub characters: [Character; 8],

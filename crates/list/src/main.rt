@@ -7,7 +7,7 @@ use reader::TONES;
 use stages::{Listing, OUTPUT, PIECE, Progress};
 
 // The listing so far, and whether there is more to read.
-#[derive(Drop)]
+#[derive(Clone, Copy)]
 struct Told {
     listing: Listing,
     goes_on: bool,

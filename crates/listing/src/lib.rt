@@ -11,7 +11,7 @@ use report::ROOM;
 use stages::{Listing, OUTPUT, PIECE, Progress, Stage};
 
 // A line as far as it stands in a piece, and the place where reading stopped: a line feed, or the end of the bytes.
-#[derive(Drop)]
+#[derive(Clone, Copy)]
 struct Within {
     listing: Listing,
     at: usize,

@@ -27,7 +27,7 @@ use told::{
 
 // number 0: no tone is bad, and place is 0. Else the refusal. looked is how many tones were looked at.
 #[repr(C)]
-#[derive(Drop)]
+#[derive(Clone, Copy)]
 pub struct LookedAnswer {
     pub number: u32,
     pub place: u64,
@@ -36,7 +36,7 @@ pub struct LookedAnswer {
 
 // number 0: the frequency. Else the refusal, and hertz is 0.
 #[repr(C)]
-#[derive(Drop)]
+#[derive(Clone, Copy)]
 pub struct HertzAnswer {
     pub number: u32,
     pub place: u32,
@@ -45,7 +45,7 @@ pub struct HertzAnswer {
 
 // The answers of the three calls, and document 01's r and u.
 #[repr(C)]
-#[derive(Drop)]
+#[derive(Clone, Copy)]
 pub struct TrialAnswers {
     pub encoded: Answer,
     pub first: Answer,
@@ -56,7 +56,7 @@ pub struct TrialAnswers {
 
 // The answers of the three calls with weights, and document 02's D.
 #[repr(C)]
-#[derive(Drop)]
+#[derive(Clone, Copy)]
 pub struct WeightedTrialAnswers {
     pub encoded: Answer,
     pub first: Answer,

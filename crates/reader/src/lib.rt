@@ -16,7 +16,7 @@ pub const TONES: usize = 256;
 const HYPHEN: u8 = b'-';
 
 // What was read of a word: nothing yet, a number, or what is no word, here or earlier in the line. A mark is the missing tone's number.
-#[derive(Drop)]
+#[derive(Clone, Copy)]
 pub enum Word {
     Empty,
     Number(u16),
@@ -24,21 +24,21 @@ pub enum Word {
 }
 
 // What was read of a line: the word that has not ended, and the count of those that have. It stops at 255.
-#[derive(Drop)]
+#[derive(Clone, Copy)]
 pub struct Line {
     pub word: Word,
     pub count: u8,
 }
 
 // A line with more of it read, and the place of what was not read: a line feed, or the end of the bytes.
-#[derive(Drop)]
+#[derive(Clone, Copy)]
 pub struct Stretch {
     pub line: Line,
     pub at: usize,
 }
 
 // A line while it is read. The word is its number, EMPTY, or UNREADABLE: two plain numbers stay in registers.
-#[derive(Drop)]
+#[derive(Clone, Copy)]
 struct Reading {
     word: usize,
     count: usize,

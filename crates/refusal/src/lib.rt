@@ -47,7 +47,7 @@ pub const ALL_FULL: u8 = 19;
 pub const SENTENCE: u8 = 20;
 
 // Number, place and lead; the lead is 0 but for UNCLEAR.
-#[derive(Drop)]
+#[derive(Clone, Copy)]
 pub struct Refusal {
     pub number: u8,
     pub place: usize,

@@ -10,14 +10,14 @@ pub mod lent;
 mod places;
 
 // The answer to a block handed in.
-#[derive(Drop)]
+#[derive(Clone, Copy)]
 pub enum Handed {
     Taken,
     Refused(Refusal),
 }
 
 // The depot served and the mode of its block; or that no depot has a block waiting; or the refusal.
-#[derive(Drop)]
+#[derive(Clone, Copy)]
 pub enum Sent {
     Block(u32, u32),
     NoneWaiting,
@@ -37,20 +37,20 @@ const SIZE: usize = 1532;
 // in which the blocks were handed in. Behind the places stands how many blocks each depot has waiting, how many places are filled, and the
 // depot that the next send looks at first.
 #[repr(C)]
-#[derive(Drop)]
+#[derive(Clone, Copy)]
 pub struct Sender {
     pub bytes: [u8; 1532],
 }
 
 // An answer, and the state for the next call.
-#[derive(Drop)]
+#[derive(Clone, Copy)]
 pub struct AfterHandIn {
     pub answer: Handed,
     pub sender: Sender,
 }
 
 // The same, of a send.
-#[derive(Drop)]
+#[derive(Clone, Copy)]
 pub struct AfterSend {
     pub answer: Sent,
     pub sender: Sender,

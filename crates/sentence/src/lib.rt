@@ -21,14 +21,14 @@ const MOST_PLACE: u32 = 65535;
 const MOST_LEAD: u32 = 960;
 
 // What bytes are read as: the refusal that the sentence came from, or 20.
-#[derive(Drop)]
+#[derive(Clone, Copy)]
 pub enum Read {
     Sentence(Refusal),
     Refused(Refusal),
 }
 
 // The length of the sentence written, or the refusal: 20 or 9.
-#[derive(Drop)]
+#[derive(Clone, Copy)]
 pub enum Written {
     Length(usize),
     Refused(Refusal),

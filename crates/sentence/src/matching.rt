@@ -6,14 +6,14 @@ ghost use Rattle.sentence.specs.Reading.{may_follow, scan_from, piece, matched};
 use super::{LEAD_MARK, MOST_LEAD, MOST_PLACE, PLACE_MARK};
 
 // Digits at the front, and their value.
-#[derive(Drop)]
+#[derive(Clone, Copy)]
 pub struct Scanned {
     pub count: usize,
     pub value: u32,
 }
 
 // How many bytes agree with a sentence of a pattern, whether they are the whole of one, and its place and lead.
-#[derive(Drop)]
+#[derive(Clone, Copy)]
 pub struct Match {
     pub shared: usize,
     pub whole: bool,

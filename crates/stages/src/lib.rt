@@ -7,7 +7,7 @@ ghost use Rattle.stages.specs.Stages.{told, before_line, begun, stopped, is_stop
 use reader::{Line, Word};
 
 // What is read: the line of mode and set lead, the lines of blocks, or nothing more.
-#[derive(Drop)]
+#[derive(Clone, Copy)]
 pub enum Stage {
     Settings,
     Blocks,
@@ -15,7 +15,7 @@ pub enum Stage {
 }
 
 // What was read of the input, and the count of its blocks.
-#[derive(Drop)]
+#[derive(Clone, Copy)]
 pub struct Listing {
     pub stage: Stage,
     pub mode: u32,
@@ -32,7 +32,7 @@ pub const PIECE: usize = 4096;
 pub const OUTPUT: usize = 40960;
 
 // The state after a piece, and how many bytes of text were written to the output's front.
-#[derive(Drop)]
+#[derive(Clone, Copy)]
 pub struct Progress {
     pub listing: Listing,
     pub written: usize,

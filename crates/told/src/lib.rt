@@ -16,7 +16,7 @@ use sentence::{Read, Written};
 
 // number 0: accepted, and count is the tones, codes or bytes written. Else the refusal, and count is 0.
 #[repr(C)]
-#[derive(Drop)]
+#[derive(Clone, Copy)]
 pub struct Answer {
     pub number: u32,
     pub place: u32,
@@ -26,7 +26,7 @@ pub struct Answer {
 
 // A decided character: code and lead, the word that won and the word that came next, each with its correlation.
 #[repr(C)]
-#[derive(Drop)]
+#[derive(Clone, Copy)]
 pub struct CharacterAnswer {
     pub code: u32,
     pub lead: u32,
@@ -38,7 +38,7 @@ pub struct CharacterAnswer {
 
 // The answer for a block, and its characters; six zeros past the mode's, and where none was decided.
 #[repr(C)]
-#[derive(Drop)]
+#[derive(Clone, Copy)]
 pub struct BlockAnswer {
     pub answer: Answer,
     pub characters: [CharacterAnswer; 8],
@@ -46,7 +46,7 @@ pub struct BlockAnswer {
 
 // The answer for a run, the start of the block found, and its characters; a refusal has neither, and zeros stand there.
 #[repr(C)]
-#[derive(Drop)]
+#[derive(Clone, Copy)]
 pub struct FoundAnswer {
     pub answer: Answer,
     pub start: u32,
@@ -55,7 +55,7 @@ pub struct FoundAnswer {
 
 // number 0: the total, and a sum that equals it for each of the mode's characters; 0 past them. Else the refusal, and zeros.
 #[repr(C)]
-#[derive(Drop)]
+#[derive(Clone, Copy)]
 pub struct EnergiesAnswer {
     pub number: u32,
     pub place: u32,
@@ -65,7 +65,7 @@ pub struct EnergiesAnswer {
 
 // number 0: the tone, and how many Hz the measurement is off it. Else the refusal, and zeros.
 #[repr(C)]
-#[derive(Drop)]
+#[derive(Clone, Copy)]
 pub struct LocatedAnswer {
     pub number: u32,
     pub place: u32,
@@ -75,7 +75,7 @@ pub struct LocatedAnswer {
 
 // The answer for a send, the depot served, and the mode of its block; zeros where no block was sent.
 #[repr(C)]
-#[derive(Drop)]
+#[derive(Clone, Copy)]
 pub struct SentAnswer {
     pub answer: Answer,
     pub depot: u32,
@@ -84,7 +84,7 @@ pub struct SentAnswer {
 
 // number 0: the refusal that a sentence came from. Else the answer has the refusal, and zeros follow.
 #[repr(C)]
-#[derive(Drop)]
+#[derive(Clone, Copy)]
 pub struct ReadAnswer {
     pub answer: Answer,
     pub number: u32,

@@ -6,7 +6,7 @@ ghost use Rattle.tone_range.specs.Range.{range_of};
 pub mod laws;
 
 // The lowest place of a bad tone, else the count of tones; and how many tones were looked at.
-#[derive(Drop)]
+#[derive(Clone, Copy)]
 pub struct Looked {
     pub bad: usize,
     pub looked: usize,

@@ -5,7 +5,7 @@ use block_encoder::Encoded;
 pub mod laws;
 
 // The answers of the three calls, and document 02's D.
-#[derive(Drop)]
+#[derive(Clone, Copy)]
 pub struct WeightedTrial {
     pub encoded: Encoded,
     pub first: BlockDecoded,
