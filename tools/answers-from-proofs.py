@@ -30,6 +30,8 @@ class Names:
         self.needs = {}
         for i, (old, new) in enumerate(entry["needs"]):
             self.needs.setdefault(need_key(old), (old, new, i))
+        for i, (old, new) in enumerate(entry["needs"]):
+            self.needs.setdefault(need_key(new), (old, new, i))
         self.places = entry["places"]
         self.by_old = {}
         for i, p in enumerate(self.places):

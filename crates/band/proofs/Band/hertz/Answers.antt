@@ -1,0 +1,8 @@
+use borrow.Author.Rules.{rules}
+use Rattle.band.proofs.Formulas.{hertz_computed}
+use Rattle.band.proofs.Band.hertz.Goals as goal
+
+pub returns : goal.returns
+returns c =
+    let a = c.args in
+    hertz_computed a.self a.tone

@@ -1,0 +1,17 @@
+use mathlib.Core.Path.{◌≡◌, sym, ◌∙◌}
+use Prim.Native.Nat.{◌≤◌, ◌-◌}
+use lib.Dec.{ltb}
+use borrow.Author.Rules.{rules}
+use borrow.Author.Tests.{lt-ltb, le-ltb}
+use Rattle.lists.specs.Places.{scan}
+use Rattle.lists.proofs.Places.{scan_start, scan_hit, scan_miss, scan_end}
+use Rattle.block_decoder.specs.Decoding.{lead_in}
+use Rattle.block_decoder.specs.Internal.{first_unclear_in}
+use Rattle.block_decoder.proofs.decode.first_unclear.Given as goal
+
+abbrev pub invariant-loop-q : goal.invariant-loop-q
+invariant-loop-q l =
+    (l.q ≤ l.mode) × (scan (λ k. ltb (lead_in l.characters k) l.least_lead) l.q (l.mode - l.q) ≡ first_unclear_in l.mode l.least_lead l.characters)
+
+abbrev pub decreases-loop-q : goal.decreases-loop-q
+decreases-loop-q l = l.mode - l.q

@@ -1,0 +1,30 @@
+use mathlib.Core.Path.{◌≡◌, ◌∙◌}
+use Prim.Native.Nat.{◌-◌, ◌≤◌}
+use native.Mathlib.Omega.{arith}
+use lib.Dec.{lit≤}
+use lib.ListN.{replicate}
+use borrow.Author.Rules.{rules}
+use Rattle.lists.specs.Lists.{tab, num, over}
+use Rattle.lists.proofs.Fronts.{over_start, over_set, over_tab_whole}
+use Rattle.block_decoder.specs.Decoding.{heard_weight}
+use Rattle.block_decoder.specs.Internal.{heard_weights}
+use Rattle.block_decoder.proofs.decode.heard_weights.Goals as goal
+
+pub loop-t-init : goal.loop-t-init
+loop-t-init c = (search rules, over_start _ _)
+
+pub loop-t-preserved : goal.loop-t-preserved
+loop-t-preserved c =
+    let l = c.loop-t in
+    let a = c.args in (
+      search rules,
+      over_set 0 (λ k. heard_weight (num a.tones.now k) (num a.weights.now k)) l.t (replicate 64 0) l.heard _ (omega arith) l.invariant.1
+          c.heard_weight.ensures,
+    )
+
+pub returns : goal.returns
+unfolding heard_weights
+returns c =
+    let l = c.loop-t in
+    let done : l.t ≡ 64 = omega arith in
+    rw done at l.invariant.1 ∙ over_tab_whole _ 64 _ (lit≤ tt)

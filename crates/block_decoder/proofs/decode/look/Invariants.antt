@@ -1,0 +1,18 @@
+use mathlib.Core.Path.{◌≡◌, refl, sym, ◌∙◌, ap}
+use Prim.Native.Nat.{◌+◌, ◌%◌, ◌≤◌, ◌-◌}
+use native.Mathlib.Omega.{arith}
+use lib.ListN.{length}
+use borrow.Author.Rules.{rules}
+use Rattle.lists.specs.Places.{scan}
+use Rattle.lists.proofs.Places.{scan_end, scan_most, scan_within, scan_beyond}
+use Rattle.tone_range.specs.Range.{bad_tone, first_bad_tone}
+use Rattle.block_decoder.specs.Internal.{seen_to}
+use Rattle.block_decoder.proofs.Seen.{seen_length}
+use Rattle.block_decoder.proofs.decode.look.Given as goal
+
+abbrev pub invariant-loop-t : goal.invariant-loop-t
+invariant-loop-t l =
+    (l.t ≤ 64) × (l.t % 16 ≡ 0) × (scan (bad_tone l.limit l.tones) l.t (64 - l.t) ≡ first_bad_tone l.limit l.tones) × (l.symbols ≡ seen_to l.tones l.t)
+
+abbrev pub decreases-loop-t : goal.decreases-loop-t
+decreases-loop-t l = 64 - l.t

@@ -1,0 +1,7 @@
+use borrow.Author.Rules.{rules}
+use Rattle.block_decoder.specs.Decoding.{refused}
+use Rattle.block_decoder.proofs.refused.Goals as goal
+
+pub returns : goal.returns
+unfolding refused
+returns c = rw c.at.ensures

@@ -1,0 +1,52 @@
+use mathlib.Core.Path.{◌≡◌, refl, ◌∙◌, ap}
+use mathlib.Core.List.{List}
+use Prim.Native.Nat.{ℕ, ◌-◌, ◌≤◌}
+use native.Mathlib.Omega.{arith}
+use lib.ListN.{length, length-set}
+use lib.Pow.{pow_mono}
+use borrow.Author.Rules.{rules}
+use Rattle.lists.specs.Lists.{tab, num, over}
+use Rattle.lists.proofs.Tables.{tab_at}
+use Rattle.lists.proofs.Fronts.{over_start, over_set}
+use Rattle.refusal.proofs.Limits.{mode_range}
+use Rattle.chain.specs.Chain.{symbol_at, gray, tone_at, tones_of}
+use Rattle.chain.proofs.Interleaving.{interleaver}
+use Rattle.block_encoder.proofs.put_tones.Goals as goal
+
+pub loop-t-init : goal.loop-t-init
+loop-t-init c = (search rules, refl, over_start _ _)
+
+-- the symbol at t
+symbol_at_lem : (c : goal.In-loop-t) →
+    let a = c.args in
+    num c.of_codes-symbols.result c.loop-t.t ≡ symbol_at a.mode a.codes.now c.loop-t.t
+symbol_at_lem c =
+    let t = c.loop-t.t in
+    ap (λ (x : List ℕ). num x t) c.of_codes-symbols.ensures ∙ tab_at _ 0 64 t c.loop-t-test.true
+
+pub overflow_cast-symbols : goal.overflow_cast-symbols
+overflow_cast-symbols c =
+    let s = c.before.before.before.before.before in
+    let mode = s.args.mode in
+    omega (arith, symbol_at_lem c, interleaver.below mode s.args.codes.now c.loop-t.t, pow_mono {i = mode} {j = 8} (mode_range mode s.requires.0).1)
+
+pub tone_of-requires : goal.tone_of-requires
+tone_of-requires c = tt
+
+pub loop-t-preserved : goal.loop-t-preserved
+unfolding tone_at
+loop-t-preserved c =
+    let l = c.loop-t in
+    let s = c.before.before.before.before.before.before in (
+      search rules,
+      length-set l.tones l.t _ ∙ l.invariant.1,
+      over_set 0 (tone_at s.args.mode s.args.codes.now) l.t s.args.tones.now l.tones _ (omega arith) l.invariant.2
+          (c.tone_of.ensures ∙ ap gray (symbol_at_lem c.before)),
+    )
+
+pub returns : goal.returns
+unfolding tones_of
+returns c =
+    let l = c.loop-t in
+    let done : l.t ≡ 64 = omega arith in
+    rw done at l.invariant.2

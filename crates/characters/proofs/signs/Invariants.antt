@@ -1,0 +1,18 @@
+use mathlib.Core.Path.{◌≡◌, ◌∙◌}
+use Prim.Native.Nat.{◌-◌, ◌≤◌}
+use native.Mathlib.Omega.{arith}
+use lib.Dec.{lit≤}
+use mathlib.Core.Bool.{false}
+use lib.ListN.{replicate}
+use borrow.Author.Rules.{rules}
+use Rattle.lists.specs.Lists.{tab, over}
+use Rattle.lists.proofs.Fronts.{over_start, over_set, over_tab_whole}
+use Rattle.characters.specs.Internal.{table_sign}
+use Rattle.characters.proofs.signs.Given as goal
+
+abbrev pub invariant-loop-t : goal.invariant-loop-t
+invariant-loop-t l =
+    (l.t ≤ 64) × (l.signs ≡ over (tab (table_sign l.keys l.values l.symbols l.q) l.t) (replicate 64 false))
+
+abbrev pub decreases-loop-t : goal.decreases-loop-t
+decreases-loop-t l = 64 - l.t

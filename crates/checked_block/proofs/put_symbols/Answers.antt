@@ -1,0 +1,27 @@
+use mathlib.Core.Path.{◌≡◌, sym, ◌∙◌, ap}
+use Prim.Native.Nat.{◌%◌, ◌≤◌, ◌-◌}
+use native.Mathlib.Omega.{arith}
+use lib.ListN.{length}
+use borrow.Author.Rules.{rules}
+use Rattle.checked_block.specs.Internal.{symbols_to}
+use Rattle.checked_block.proofs.CheckedCounts.{symbols_length}
+use Rattle.checked_block.proofs.put_symbols.Goals as goal
+
+pub loop-t-init : goal.loop-t-init
+loop-t-init c = (omega arith, search rules, c.requires.1)
+
+pub put_row-requires : goal.put_row-requires
+put_row-requires c =
+    let l = c.before.before.before in
+    (l.symbols-table.ensures, omega (arith, l.loop-t.invariant.0, c.loop-t-test.true), l.requires.0, l.loop-t.invariant.2)
+
+pub loop-t-preserved : goal.loop-t-preserved
+loop-t-preserved c =
+    let l = c.before.before.before.before.before.before in
+    (omega (arith, l.loop-t.invariant.0), omega (arith, l.loop-t.invariant.0, c.loop-t-test.true), c.put_row.ensures)
+
+pub returns : goal.returns
+returns c =
+    let l = c.loop-t in
+    let done : l.t ≡ 64 = omega arith in
+    rw done at l.invariant.2

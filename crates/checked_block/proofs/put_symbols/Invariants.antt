@@ -1,0 +1,14 @@
+use mathlib.Core.Path.{◌≡◌, sym, ◌∙◌, ap}
+use Prim.Native.Nat.{◌%◌, ◌≤◌, ◌-◌}
+use native.Mathlib.Omega.{arith}
+use lib.ListN.{length}
+use borrow.Author.Rules.{rules}
+use Rattle.checked_block.specs.Internal.{symbols_to}
+use Rattle.checked_block.proofs.CheckedCounts.{symbols_length}
+use Rattle.checked_block.proofs.put_symbols.Given as goal
+
+abbrev pub invariant-loop-t : goal.invariant-loop-t
+invariant-loop-t l = (l.t % 16 ≡ 0) × (l.t ≤ 64) × (l.symbols ≡ symbols_to l.tones l.t)
+
+abbrev pub decreases-loop-t : goal.decreases-loop-t
+decreases-loop-t l = 64 - l.t

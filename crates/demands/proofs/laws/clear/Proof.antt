@@ -1,9 +1,0 @@
-use Rattle.demands.proofs.Answers.{clear}
-use Rattle.demands.proofs.laws.clear.Statement.{statement}
-use Rattle.demands.proofs.laws.clear.Tie as tie
-
-returns : tie.Need-returns
-returns c = clear
-
-pub clear_spec : {M : Type 1} → statement M
-clear_spec = tie.close (tie.spec returns)

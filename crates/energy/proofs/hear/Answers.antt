@@ -1,0 +1,48 @@
+use mathlib.Core.Path.{◌≡◌, ◌∙◌}
+use Prim.Native.Nat.{◌-◌, ◌≤◌}
+use native.Mathlib.Omega.{arith}
+use lib.Dec.{lit≤}
+use lib.ListN.{replicate}
+use borrow.Author.Rules.{rules}
+use Rattle.lists.specs.Lists.{tab, num, over}
+use Rattle.lists.proofs.Fronts.{over_start, over_set, over_tab_whole}
+use Rattle.block_decoder.specs.Decoding.{heard_weight}
+use Rattle.block_decoder.specs.Internal.{seen_symbol, seen_to, heard_weights}
+use Rattle.energy.specs.Internal.{heard_of}
+use Rattle.energy.proofs.hear.Goals as goal
+
+pub loop-t-init : goal.loop-t-init
+loop-t-init c = (search rules, over_start _ _, over_start _ _)
+
+pub bounds-tones-t : goal.bounds-tones-t
+bounds-tones-t c = omega (arith, c.loop-t-test.true, c.requires.0.count)
+
+pub symbol-requires : goal.symbol-requires
+symbol-requires c =
+    let i = c.before.before in
+    let l = i.before in
+    (l.symbols-table.ensures, l.requires.0.each l.loop-t.t i.loop-t-test.true)
+
+pub bounds-weights-t : goal.bounds-weights-t
+bounds-weights-t c =
+    let i = c.before.before.before.before in
+    omega (arith, i.loop-t-test.true, i.requires.1)
+
+pub loop-t-preserved : goal.loop-t-preserved
+loop-t-preserved c =
+    let s = c.before.before in
+    let l = s.before.before.before.before in
+    let a = l.args in (
+      omega arith,
+      over_set 0 (λ k. seen_symbol (num a.tones.now k)) l.loop-t.t (replicate 64 0) l.loop-t.symbols _ (omega arith) l.loop-t.invariant.1 s.symbol.ensures,
+      over_set 0 (λ k. heard_weight (num a.tones.now k) (num a.weights.now k)) l.loop-t.t (replicate 64 0) l.loop-t.heard _ (omega arith) l.loop-t.invariant.2 c.heard_weight.ensures,
+    )
+
+pub returns : goal.returns
+unfolding heard_of seen_to heard_weights
+returns c =
+    let l = c.loop-t in
+    let done : l.t ≡ 64 = omega arith in
+    let p = rw done at l.invariant.1 in
+    let q = rw done at l.invariant.2 ∙ over_tab_whole _ 64 _ (lit≤ tt) in
+    λ i. record { symbols = p i; weights = q i }

@@ -1,0 +1,15 @@
+use mathlib.Core.Path.{◌≡◌, refl, ap}
+use Prim.Native.Nat.{ℕ, ◌-◌, ◌*◌, ◌≤◌}
+use native.Mathlib.Nat.{mul-le-mul}
+use native.Mathlib.Omega.{arith}
+use borrow.Author.Rules.{rules}
+use Rattle.lists.specs.Lists.{num}
+use Rattle.lists.specs.Sums.{total}
+use Rattle.lists.proofs.Sums.{total_more}
+use Rattle.energy.proofs.total.Given as goal
+
+abbrev pub invariant-loop-t : goal.invariant-loop-t
+invariant-loop-t l = (l.t ≤ 64) × (l.sum ≤ l.t * 225) × (l.sum ≡ total l.t (λ k. num l.weights k * num l.weights k))
+
+abbrev pub decreases-loop-t : goal.decreases-loop-t
+decreases-loop-t l = 64 - l.t

@@ -1,0 +1,8 @@
+use Rattle.std.proofs.Common.{rules}
+use Rattle.judge.proofs.goes_on.Goals as goal
+
+pub returns-in-Text : goal.returns-in-Text
+returns-in-Text c = rw c.in-Text.is
+
+pub returns-in-Refused : goal.returns-in-Refused
+returns-in-Refused c = rw c.in-Refused.is

@@ -1,0 +1,11 @@
+use borrow.Author.Rules.{rules}
+use Rattle.listing.specs.Internal.{tones_read}
+use Rattle.listing.proofs.Lines.{read_as}
+use Rattle.listing.proofs.read_from.Goals as goal
+
+pub returns : goal.returns
+unfolding tones_read
+returns c =
+    let r = c.before in
+    let marks = r.takes_marks.ensures in
+    let read = r.read_line-stretch.ensures in record { answer = read_as _ _ _ (rw marks at read.0); kept = rw marks at read.1 }

@@ -1,0 +1,25 @@
+use mathlib.Core.Path.{◌≡◌, refl, ◌∙◌, ap}
+use mathlib.Core.List.{List}
+use Prim.Native.Nat.{ℕ, ◌≤◌, ◌-◌}
+use native.Mathlib.Omega.{arith}
+use lib.ListN.{length, length-set}
+use borrow.Author.Rules.{rules}
+use Rattle.lists.specs.Lists.{tab, num, over}
+use Rattle.lists.proofs.Fronts.{over_start, over_set}
+use Rattle.lists.proofs.Tables.{tab_take}
+use Rattle.message_decoder.proofs.put_text.Goals as goal
+
+pub loop-i-init : goal.loop-i-init
+loop-i-init c = (search rules, refl, over_start _ _)
+
+pub loop-i-preserved : goal.loop-i-preserved
+loop-i-preserved c =
+    let l = c.before.before in
+    (search rules, simp length-set l.loop-i.invariant.1, over_set 0 _ l.loop-i.i _ _ _ (omega arith) l.loop-i.invariant.2 refl)
+
+pub returns : goal.returns
+returns c =
+    let l = c.before in
+    let a = l.args in
+    let e : l.loop-i.i ≡ a.n = omega arith in
+    rw e at l.loop-i.invariant.2 ∙ ap (λ (x : List ℕ). over x a.text.now) (tab_take 0 a.codes.now a.n (omega arith))

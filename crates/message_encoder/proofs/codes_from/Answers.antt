@@ -1,0 +1,19 @@
+use mathlib.Core.Path.{◌≡◌}
+use Prim.Native.Nat.{◌+◌, ◌-◌, ◌≤◌}
+use native.Mathlib.Omega.{arith}
+use lib.ListN.{replicate}
+use borrow.Author.Rules.{rules}
+use Rattle.lists.specs.Lists.{tab, num, over}
+use Rattle.lists.proofs.Fronts.{over_start, over_set}
+use Rattle.message_encoder.proofs.codes_from.Goals as goal
+
+pub loop-q-init : goal.loop-q-init
+loop-q-init c = (search rules, over_start _ _)
+
+pub loop-q-preserved : goal.loop-q-preserved
+loop-q-preserved c =
+    let l = c.before.before in
+    (search rules, over_set 0 _ l.loop-q.q _ _ _ (omega arith) l.loop-q.invariant.1 c.code_at.ensures)
+
+pub returns : goal.returns
+returns c = let e : c.loop-q.q ≡ c.args.mode = omega arith in rw e at c.loop-q.invariant.1

@@ -1,0 +1,36 @@
+use mathlib.Core.Path.{◌≡◌, sym, ◌∙◌, ap}
+use mathlib.Core.Bool.{true, false, not}
+use mathlib.Core.Logic.{⊎_elim}
+use Prim.Native.Nat.{◌-◌, ◌≤◌}
+use native.Mathlib.Omega.{arith}
+use lib.ListN.{length}
+use borrow.Author.Rules.{rules}
+use borrow.Author.Tests.{ltb-true, ltb-false}
+use Rattle.lists.specs.Lists.{num}
+use Rattle.lists.specs.Places.{scan}
+use Rattle.lists.proofs.Places.{scan_start, scan_hit, scan_miss, scan_end}
+use Rattle.refusal.proofs.Limits.{within_true, below_low, above_high}
+use Rattle.message_encoder.specs.Encoding.{bad_text_code, first_bad_text_code}
+use Rattle.message_encoder.proofs.first_bad_code.Goals as goal
+
+pub loop-i-init : goal.loop-i-init
+unfolding first_bad_text_code
+loop-i-init c = (search rules, scan_start _ _)
+
+pub returns-then-code-lt1 : goal.returns-then-code-lt1
+returns-then-code-lt1 c =
+    let l = c.before.before.before in
+    let code = num l.args.text.now l.loop-i.i in
+    let here : bad_text_code l.args.text.now l.loop-i.i ≡ true =
+    ap not (⊎_elim (λ w. below_low 1 127 code (omega (arith, w.taken))) (λ w. above_high 1 127 code (ltb-true _ _ w.1.taken)) c.then-code-lt1.branch) in
+    sym (scan_hit _ l.loop-i.i _ c.loop-i-test.true here) ∙ l.loop-i.invariant.1
+
+pub loop-i-preserved : goal.loop-i-preserved
+loop-i-preserved c =
+    let l = c.before.before.before.before in
+    let here : bad_text_code l.args.text.now l.loop-i.i ≡ false =
+    ap not (within_true 1 127 (num l.args.text.now l.loop-i.i) c.if-code-lt1.false (ltb-false _ _ c.if-code-gt127.false-raw)) in
+    (search rules, scan_miss _ l.loop-i.i _ c.loop-i-test.true here ∙ l.loop-i.invariant.1)
+
+pub returns : goal.returns
+returns c = sym (scan_end _ c.loop-i.i _ c.loop-i-test.false) ∙ c.loop-i.invariant.1

@@ -1,0 +1,12 @@
+use mathlib.Core.Path.{◌∙◌, ap}
+use borrow.Author.Rules.{rules}
+use Rattle.told.specs.Told.{found_told}
+use Rattle.told.proofs.Kept.{found_kept}
+use Rattle.olivia.proofs.Carried.{found_small}
+use Rattle.olivia.proofs.olivia_find_block.Goals as goal
+
+pub returns : goal.returns
+returns c =
+    let called = c.find in
+    let mode = c.args.mode in
+    let kept = found_kept called.result (rw called.ensures.0 (found_small _ _ _ _)) in record { answer = c.found.ensures ∙ ap (found_told mode) (kept ∙ called.ensures.0); output = called.ensures.1 }

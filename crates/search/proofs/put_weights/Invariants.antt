@@ -1,0 +1,16 @@
+use mathlib.Core.Path.{◌≡◌, refl}
+use Prim.Native.Nat.{◌≤◌, ◌-◌}
+use native.Mathlib.Omega.{arith}
+use lib.ListN.{length, length-set}
+use borrow.Author.Rules.{rules}
+use Rattle.lists.specs.Lists.{tab, num, over}
+use Rattle.lists.proofs.Fronts.{over_start, over_set}
+use Rattle.checked_block.specs.Checked.{weight_below}
+use Rattle.search.proofs.put_weights.Given as goal
+
+abbrev pub invariant-loop-t : goal.invariant-loop-t
+invariant-loop-t l =
+    (l.t ≤ length l.run) × (length l.weights ≡ length l.initial.weights) × (l.weights ≡ over (tab (λ k. weight_below l.limit (num l.run k)) l.t) l.initial.weights)
+
+abbrev pub decreases-loop-t : goal.decreases-loop-t
+decreases-loop-t l = length l.run - l.t

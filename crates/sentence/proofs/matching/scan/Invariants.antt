@@ -1,0 +1,12 @@
+-- Before each turn the bytes passed are digits of the value.
+use Prim.Native.Nat.{◌-◌, ◌≤◌}
+use native.Mathlib.Omega.{arith}
+use lib.ListN.{length}
+use Rattle.sentence.proofs.ScanCases.{told_follows, told_digit, Scans, scans_none, scans_all, scans_stop, scans_more}
+use Rattle.sentence.proofs.matching.scan.Given as goal
+
+abbrev pub invariant-loop-count : goal.invariant-loop-count
+invariant-loop-count l = (l.count ≤ length l.bytes) × (l.value ≤ l.limit) × Scans l.limit l.bytes l.count l.value
+
+abbrev pub decreases-loop-count : goal.decreases-loop-count
+decreases-loop-count l = length l.bytes - l.count

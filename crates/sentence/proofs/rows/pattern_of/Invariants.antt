@@ -1,0 +1,13 @@
+-- Before each turn the rows that are left have the number's pattern.
+use Prim.Native.Nat.{◌+◌, ◌-◌, ◌≤◌}
+use native.Mathlib.Omega.{arith}
+use borrow.Author.Rules.{rules}
+use lib.ListN.{length, get_or}
+use Rattle.sentence.proofs.RowCases.{PatternLeft, pattern_start, pattern_none, pattern_head, pattern_found, pattern_later}
+use Rattle.sentence.proofs.rows.pattern_of.Given as goal
+
+abbrev pub invariant-loop-at : goal.invariant-loop-at
+invariant-loop-at l = (l.at ≤ length l.rows) × PatternLeft l.rows l.number l.at
+
+abbrev pub decreases-loop-at : goal.decreases-loop-at
+decreases-loop-at l = length l.rows - l.at

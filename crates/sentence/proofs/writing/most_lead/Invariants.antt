@@ -1,0 +1,13 @@
+-- Before each turn no byte passed is the lead's mark.
+use mathlib.Core.Path.{refl}
+use Prim.Native.Nat.{◌-◌, ◌≤◌}
+use native.Mathlib.Omega.{arith}
+use lib.ListN.{length}
+use Rattle.sentence.proofs.WriteCases.{NoLead, no_lead_more, lead_found, lead_none}
+use Rattle.sentence.proofs.writing.most_lead.Given as goal
+
+abbrev pub invariant-loop-i : goal.invariant-loop-i
+invariant-loop-i l = (l.i ≤ length l.pattern) × NoLead l.pattern l.i
+
+abbrev pub decreases-loop-i : goal.decreases-loop-i
+decreases-loop-i l = length l.pattern - l.i

@@ -1,0 +1,18 @@
+use mathlib.Core.Path.{refl}
+use borrow.Author.Rules.{rules}
+use Rattle.lists.specs.Caps.{capped}
+use Rattle.told.proofs.located.Goals as goal
+
+pub returns-in-Heard : goal.returns-in-Heard
+returns-in-Heard c = rw c.in-Heard.is refl
+
+pub returns-in-NotFinite : goal.returns-in-NotFinite
+unfolding capped
+returns-in-NotFinite c = rw (c.in-NotFinite.is, c.nowhere.ensures, c.at.ensures) refl
+
+pub returns-in-OutsideBand : goal.returns-in-OutsideBand
+unfolding capped
+returns-in-OutsideBand c = rw (c.in-OutsideBand.is, c.nowhere-in-OutsideBand.ensures, c.at-in-OutsideBand.ensures) refl
+
+pub returns-in-Refused : goal.returns-in-Refused
+returns-in-Refused c = rw (c.in-Refused.is, c.nowhere-in-Refused.ensures) refl

@@ -1,0 +1,15 @@
+use mathlib.Core.Path.{refl}
+use Rattle.lists.specs.Caps.{capped}
+use borrow.Author.Rules.{rules}
+use Rattle.told.proofs.sent.Goals as goal
+
+pub returns-in-Block : goal.returns-in-Block
+unfolding capped
+returns-in-Block c = rw (c.in-Block.is, c.accepted.ensures) refl
+
+pub returns-in-NoneWaiting : goal.returns-in-NoneWaiting
+unfolding capped
+returns-in-NoneWaiting c = rw (c.in-NoneWaiting.is, c.accepted-in-NoneWaiting.ensures) refl
+
+pub returns-in-Refused : goal.returns-in-Refused
+returns-in-Refused c = rw (c.in-Refused.is, c.refused.ensures) refl

@@ -1,0 +1,36 @@
+use mathlib.Core.Path.{sym}
+use Prim.Native.Nat.{◌≤◌}
+use borrow.Author.Rules.{rules}
+use lib.ListN.{length}
+use lib.Seq.{length-take-le}
+use Rattle.trial.proofs.Trials.{sent_fits, tried}
+use Rattle.trial.proofs.run.Goals as goal
+
+-- the tones written are within the output
+fits : (c : goal.After-sent_count-sent) → c.sent_count-sent.result ≤ length c.encode_block-encoded.new.tones
+fits c =
+    let e = c.before.before.before in
+    let a = e.args in
+    rw (c.sent_count-sent.ensures, e.encode_block-encoded.ensures.answer, e.encode_block-encoded.ensures.output) (sent_fits a.mode a.text.now a.tones.now)
+
+pub slice_bounds-replaced_in-end : goal.slice_bounds-replaced_in-end
+slice_bounds-replaced_in-end c = fits c
+
+pub slice_bounds-replaced_in-end-2 : goal.slice_bounds-replaced_in-end-2
+slice_bounds-replaced_in-end-2 c = sym (length-take-le _ _ (fits c.before))
+
+pub slice_bounds-decode_block-end : goal.slice_bounds-decode_block-end
+slice_bounds-decode_block-end c = fits c.before.before.before
+
+pub slice_bounds-decode_block-end-2 : goal.slice_bounds-decode_block-end-2
+slice_bounds-decode_block-end-2 c = sym (length-take-le _ _ (fits c.before.before.before.before))
+
+pub returns : goal.returns
+returns c =
+    let second = c.before.before in
+    let first = second.before.before.before.before in
+    let missing = first.before.before.before in
+    let replaced = missing.before in
+    let sent = replaced.before.before in
+    let encoded = sent.before.before.before in
+    tried _ _ _ _ _ _ _ _ _ _ _ _ _ _ _ _ encoded.encode-block.ensures sent.sent_count.ensures replaced.replaced-in.ensures missing.missing-in.ensures first.decode_block-first.ensures second.decode_block-second.ensures

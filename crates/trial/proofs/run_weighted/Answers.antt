@@ -1,0 +1,38 @@
+use mathlib.Core.Path.{refl, sym}
+use Prim.Native.Nat.{◌≤◌}
+use borrow.Author.Rules.{rules}
+use lib.ListN.{length}
+use lib.Seq.{length-take-le}
+use Rattle.weight_range.specs.Range.{throughout}
+use Rattle.trial.proofs.Trials.{sent_fits}
+use Rattle.trial.proofs.WeightedTrials.{weighted_tried}
+use Rattle.trial.proofs.run_weighted.Goals as goal
+
+-- the tones written are within the output
+fits : (c : goal.After-sent_count-sent) → c.sent_count-sent.result ≤ length c.encode_block-encoded.new.tones
+fits c =
+    let e = c.before.before.before in
+    let a = e.args in
+    rw (c.sent_count-sent.ensures, e.encode_block-encoded.ensures.answer, e.encode_block-encoded.ensures.output) (sent_fits a.mode a.text.now a.tones.now)
+
+pub slice_bounds-damage_in-end : goal.slice_bounds-damage_in-end
+slice_bounds-damage_in-end c = fits c
+
+pub slice_bounds-damage_in-end-2 : goal.slice_bounds-damage_in-end-2
+slice_bounds-damage_in-end-2 c = sym (length-take-le _ _ (fits c.before))
+
+pub slice_bounds-decode_weighted-end : goal.slice_bounds-decode_weighted-end
+slice_bounds-decode_weighted-end c = fits c.before.before
+
+pub slice_bounds-decode_weighted-end-2 : goal.slice_bounds-decode_weighted-end-2
+slice_bounds-decode_weighted-end-2 c = sym (length-take-le _ _ (fits c.before.before.before))
+
+pub returns : goal.returns
+unfolding throughout
+returns c =
+    let second = c.before.before in
+    let first = second.before.before.before.before in
+    let damage = first.before.before.before.before in
+    let sent = damage.before.before in
+    let encoded = sent.before.before.before in
+    weighted_tried _ _ _ _ _ _ _ _ _ _ _ _ _ _ _ _ _ encoded.encode-block.ensures sent.sent_count.ensures damage.damage-in.ensures first.decode_weighted-first.ensures second.decode_weighted-second.ensures refl

@@ -1,0 +1,36 @@
+use mathlib.Core.Path.{◌≡◌, refl}
+use Prim.Native.Nat.{◌-◌, ◌≤◌}
+use native.Mathlib.Omega.{arith}
+use borrow.Author.Rules.{rules}
+use Rattle.lists.specs.Lists.{at}
+use Rattle.lists.specs.Sums.{total}
+use Rattle.walsh.specs.Energy.{square, energy}
+use Rattle.walsh.proofs.Energies.{Next, next}
+use Rattle.walsh.proofs.sum_of_squares.Goals as goal
+
+pub loop-word-init : goal.loop-word-init
+unfolding total
+loop-word-init c = (omega arith, refl)
+
+-- what the next correlation adds
+added : (c : goal.After-correlation-1) → let l = c.before.before in Next (at l.args.correlations) l.loop-word.word
+added c = let l = c.before.before in next (at l.args.correlations) l.loop-word.word (omega (arith, c.loop-word-test.true)) l.requires
+
+pub overflow_mul-sum : goal.overflow_mul-sum
+overflow_mul-sum c = (added c).ranges
+
+pub overflow_cast-sum : goal.overflow_cast-sum
+overflow_cast-sum c = rw (added c).value (tt, omega (arith, (added c).small))
+
+pub overflow_add-sum : goal.overflow_add-sum
+overflow_add-sum c = rw (added c).value (omega (arith, (added c).small, c.loop-word.invariant.1))
+
+pub loop-word-preserved : goal.loop-word-preserved
+loop-word-preserved c = (omega arith, rw (added c).value (omega (arith, (added c).more, c.loop-word.invariant.1)))
+
+pub returns : goal.returns
+unfolding energy
+returns c =
+    let l = c.before in
+    let done : l.loop-word.word ≡ 64 = omega arith in
+    rw done at l.loop-word.invariant.1
