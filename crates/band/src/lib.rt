@@ -1,5 +1,7 @@
 // Tone frequencies: document 01, "Tone frequencies", every step exact in f64; and the tone that a measured frequency belongs to:
 // document 02, order 4.
+#![tactic(auto)]
+
 ghost use Rattle.std.specs.Prelude.{true, ◌≡◌, ◌%◌, ◌^◌, ltb};
 ghost use Rattle.std.specs.Float.Ieee.Scale.{finite};
 ghost use Rattle.refusal.specs.Checks.{is_mode};

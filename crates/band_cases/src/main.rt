@@ -1,5 +1,7 @@
 // Runs the entries of a band on case 12 of document 01's bench sheet, on the ends of the limits at every mode, on measurements at
 // the edges of that band and around 0, and on inputs that break several limits at once.
+#![tactic(auto)]
+
 mod lines;
 
 fn main() {

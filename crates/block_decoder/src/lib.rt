@@ -1,4 +1,6 @@
 // One block of the published chain, decoded: document 01, "Hearing a block", and document 02, order 3.
+#![tactic(auto)]
+
 ghost use Rattle.std.specs.Prelude.{◌≡◌, ℕ, ◌≤◌, length};
 ghost use Rattle.block_decoder.specs.Decoding.{heard_weight, weighted_of, codes_of, refused, heard_block, decode_block, decode_weighted, heard_into, decoded_into, weighted_into};
 ghost use Rattle.block_decoder.specs.Internal.{judgement_in};

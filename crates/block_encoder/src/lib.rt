@@ -1,4 +1,6 @@
 // One block of the published chain, encoded: document 01, "Sending a block".
+#![tactic(auto)]
+
 ghost use Rattle.std.specs.Prelude.{true, ◌≡◌, ◌≤◌, length};
 ghost use Rattle.lists.specs.Lists.{over};
 ghost use Rattle.refusal.specs.Checks.{is_mode};

@@ -1,5 +1,7 @@
 // The lines of a block, put at the front of an output: document 01, "The listing program", and order 5. The answer is how many bytes were
 // written. Nothing is written to an output of less than report::ROOM bytes.
+#![tactic(auto)]
+
 ghost use Rattle.std.specs.Prelude.{◌≡◌, ◌≤◌, min, length, get_or};
 ghost use Rattle.lists.specs.Lists.{over};
 ghost use Rattle.decision.specs.Decision.{none};

@@ -1,5 +1,7 @@
 // The published chain, from codes to tones: document 01, "Sending a block". Its rules are in specs/Chain.antt; here are the tables of the
 // Gray code, of the key and of the places, and a code's bits.
+#![tactic(auto)]
+
 pub mod gray;
 pub mod interleaver;
 pub mod laws;

@@ -1,5 +1,7 @@
 // The decisions on a block's characters, and their energies, by its symbols, none of which is missing, and a weight for each: interleaver and key
 // undone.
+#![tactic(auto)]
+
 ghost use Rattle.std.specs.Prelude.{◌≡◌, ◌<◌, replicate};
 ghost use Rattle.lists.specs.Lists.{tab, over};
 ghost use Rattle.decision.specs.Decision.{none};

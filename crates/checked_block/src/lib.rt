@@ -1,4 +1,6 @@
 // A block of a message, decoded: its tones were checked before, with all of the message, and its records are not told.
+#![tactic(auto)]
+
 ghost use Rattle.std.specs.Prelude.{◌≡◌, true, ◌+◌, ◌≤◌, ◌^◌, length};
 ghost use Rattle.lists.specs.Lists.{tab};
 ghost use Rattle.refusal.specs.Checks.{is_mode};

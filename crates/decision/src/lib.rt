@@ -1,4 +1,6 @@
 // What the decision on one character is: document 01, "Hearing a block", and order 5. Its rules are in specs/Decision.antt.
+#![tactic(auto)]
+
 pub mod laws;
 
 // A decided character: its 7-bit code, and document 01's lead, the decision's margin over its nearest rival; then why, the word that won

@@ -1,5 +1,7 @@
 // Runs the decision on every code as sent, on document 01's cases 6 to 11 as the signs and weights of one character, on a winner and a
 // runner-up that are both negative, and on weights up to the largest byte, of which four bits count.
+#![tactic(auto)]
+
 ghost use Rattle.std.specs.Prelude.{◌≤◌};
 
 use decision::Character;

@@ -1,4 +1,6 @@
 // What the codes of clear blocks deliver: the end of their text, or refusal 11 or 12. Document 01, "Messages".
+#![tactic(auto)]
+
 ghost use Rattle.std.specs.Prelude.{◌≡◌, ◌≤◌, length};
 ghost use Rattle.lists.specs.Places.{first};
 ghost use Rattle.delivery.specs.Delivery.{is_zero, text_end, delivery};

@@ -1,4 +1,6 @@
 // Demands 2 and 3 of document 01 for one block: laws over the entries of `block_encoder` and `block_decoder`.
+#![tactic(auto)]
+
 use block_decoder::BlockDecoded;
 use block_encoder::Encoded;
 

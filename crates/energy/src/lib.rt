@@ -1,4 +1,6 @@
 // The energy of a block's characters, a check that needs no text: document 02, order 13.
+#![tactic(auto)]
+
 ghost use Rattle.std.specs.Prelude.{◌≡◌, ◌⊎◌, ℕ, ◌*◌, ◌<◌, ◌≤◌, length};
 ghost use Rattle.lists.specs.Lists.{tab, num};
 ghost use Rattle.lists.specs.Sums.{total};

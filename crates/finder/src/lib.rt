@@ -1,4 +1,6 @@
 // The first block in a long run of tones whose start is unknown: document 02, order 1.
+#![tactic(auto)]
+
 ghost use Rattle.std.specs.Prelude.{◌≡◌, length};
 ghost use Rattle.refusal.specs.Checks.{within};
 ghost use Rattle.search.specs.Starts.{longest_run};

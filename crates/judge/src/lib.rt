@@ -1,5 +1,7 @@
 // A line that was read to its end: what is printed of it, and how the listing goes on. Document 01, "The listing program". Text is put at
 // the front of the output, if that has the room that every text has to have.
+#![tactic(auto)]
+
 ghost use Rattle.std.specs.Prelude.{◌≡◌, ◌≤◌, ◌&&◌, length, take, ◌==◌};
 ghost use Rattle.lists.specs.Lists.{over};
 ghost use Rattle.refusal.specs.Refused.{refused_at};

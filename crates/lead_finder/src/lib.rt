@@ -1,4 +1,6 @@
 // The lead finder: the decision on one character, from the sign and the weight of what each symbol counts.
+#![tactic(auto)]
+
 ghost use Rattle.std.specs.Prelude.{◌≡◌, ◌%◌, pos};
 ghost use Rattle.lists.specs.Lists.{tab};
 ghost use Rattle.walsh.specs.Words.{signed, corr};

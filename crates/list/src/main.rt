@@ -1,5 +1,7 @@
 // Lists the blocks whose tones come on standard input: document 01, "The listing program". It reads, hands on and writes; what is written
 // is the promise of `listing`.
+#![tactic(auto)]
+
 ghost use Rattle.std.specs.Prelude.{◌≤◌, length};
 
 use libc::{STDIN_FILENO, STDOUT_FILENO};

@@ -1,4 +1,6 @@
 // The listing of decoded blocks, from the bytes of the input to the bytes printed: document 01, "The listing program".
+#![tactic(auto)]
+
 ghost use Rattle.std.specs.Prelude.{◌≡◌, ◌+◌, ◌≤◌, length, take};
 ghost use Rattle.lists.specs.Lists.{over};
 ghost use Rattle.reader.specs.Reader.{end_tones, line_from};

@@ -1,4 +1,6 @@
 // A text of several blocks, encoded: document 01, "Messages".
+#![tactic(auto)]
+
 ghost use Rattle.std.specs.Prelude.{◌≡◌, true, ◌+◌, ◌*◌, ◌≤◌, length, replicate};
 ghost use Rattle.lists.specs.Lists.{tab, num, over};
 ghost use Rattle.refusal.specs.Checks.{is_mode};

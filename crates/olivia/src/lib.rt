@@ -1,4 +1,6 @@
 // The C library: the entries of documents 01 and 02 for C and C++. include/olivia.h declares them.
+#![tactic(auto)]
+
 ghost use Rattle.std.specs.Prelude.{◌≡◌, length};
 ghost use Rattle.block_encoder.specs.Encoding.{encode_block, encoded_into};
 ghost use Rattle.block_decoder.specs.Decoding.{decode_block, decode_weighted, decoded_into, weighted_into};

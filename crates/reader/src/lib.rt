@@ -1,4 +1,6 @@
 // A line of numbers, read piece by piece: document 01, "The listing program". The numbers of the words that ended stand in a lent array.
+#![tactic(auto)]
+
 ghost use Rattle.std.specs.Prelude.{◌≡◌, false, ◌&&◌, cond, ◌+◌, ◌≤◌, min, eqb};
 ghost use Rattle.text.specs.Ascii.{hyphen};
 ghost use Rattle.text.specs.Decimal.{is_digit};

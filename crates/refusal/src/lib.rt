@@ -1,4 +1,6 @@
 // The refusal that every entry answers with: document 01, "Who can cause a refusal".
+#![tactic(auto)]
+
 ghost use Rattle.std.specs.Prelude.{◌≡◌};
 ghost use Rattle.refusal.specs.Refused.{refused_at, unclear_at};
 

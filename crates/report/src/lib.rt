@@ -1,5 +1,7 @@
 // The lines that end a listing, put at the front of an output: document 01, "The listing program". The answer is how many bytes were
 // written. Nothing is written to an output of less than ROOM bytes.
+#![tactic(auto)]
+
 ghost use Rattle.std.specs.Prelude.{◌≡◌, ◌≤◌, length};
 ghost use Rattle.lists.specs.Lists.{over};
 ghost use Rattle.report.specs.Output.{fitting, refused_text, unreadable_text, end_text};

@@ -1,4 +1,6 @@
 // The search for a block whose start is unknown: document 02, order 1.
+#![tactic(auto)]
+
 ghost use Rattle.std.specs.Prelude.{◌≡◌, ◌+◌, ◌≤◌, ◌%◌, length};
 ghost use Rattle.lists.specs.Lists.{tab, num, over};
 ghost use Rattle.lists.specs.Places.{first};

@@ -1,4 +1,6 @@
 // Thirty depots hand blocks to one transmitter, which sends them in turn: document 02, order 7.
+#![tactic(auto)]
+
 ghost use Rattle.sender.specs.Queues.{new};
 ghost use Rattle.sender.specs.State.{Holds};
 ghost use Rattle.sender.specs.Sending.{HandedIn, HandedToAny, SentFrom, SentFromAny};

@@ -1,4 +1,6 @@
 // Thirty depots at one sender, together at the limit: who is refused where, what is sent in which order, and what changes nothing.
+#![tactic(auto)]
+
 use sender::Sender;
 
 mod lines;

@@ -1,4 +1,6 @@
 // Refusals in words: document 02, order 8.
+#![tactic(auto)]
+
 ghost use Rattle.std.specs.Prelude.{◌≡◌, length};
 ghost use Rattle.sentence.specs.Reading.{read_sentence};
 ghost use Rattle.sentence.specs.Writing.{write_sentence, sentence_into};

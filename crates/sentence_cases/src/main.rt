@@ -1,5 +1,7 @@
 // Refusals in words: the sentence of every number at several places, those that have none, and the lines of the input, which are
 // sentences, nearly sentences, or none.
+#![tactic(auto)]
+
 use libc::STDIN_FILENO;
 
 mod lines;

@@ -1,4 +1,6 @@
 // The stages of a listing: its state, and what is printed at its beginning and at its end. Document 01, "The listing program".
+#![tactic(auto)]
+
 ghost use Rattle.std.specs.Prelude.{◌≡◌, length};
 ghost use Rattle.lists.specs.Lists.{over};
 ghost use Rattle.report.specs.Output.{heading, fitting};

@@ -1,4 +1,6 @@
 // Text in ASCII, put at the front of an output: bytes, and numbers in decimal. The answer is how many bytes were written.
+#![tactic(auto)]
+
 ghost use Rattle.std.specs.Prelude.{◌≡◌, ◌++◌, ◌+◌, ◌≤◌, nat_abs, length, take, drop};
 ghost use Rattle.lists.specs.Lists.{over};
 ghost use Rattle.text.specs.Decimal.{decimal, field, signed_field};

@@ -1,4 +1,6 @@
 // What C is told of each answer. A count or a place that 32 bits do not hold is capped.
+#![tactic(auto)]
+
 ghost use Rattle.std.specs.Prelude.{◌≡◌};
 ghost use Rattle.lists.specs.Caps.{capped};
 ghost use Rattle.told.specs.Told.{accepted_told, refusal_told, encoded_told, decoded_told, character_told, characters_told, block_told, found_told, energies_told, nowhere_told, located_told, handed_told, sent_told, written_told, read_told};

@@ -1,4 +1,6 @@
 // The range check of tones: document 01, refusal 8, and document 02, order 2.
+#![tactic(auto)]
+
 ghost use Rattle.std.specs.Prelude.{◌≡◌, not, ◌&&◌, ◌==◌, nat_le};
 ghost use Rattle.chain.specs.Chain.{missing_mark};
 ghost use Rattle.tone_range.specs.Range.{range_of};

@@ -1,4 +1,6 @@
 // Demand 3 as one function, plain and with weights: a text is encoded, decoded, and decoded from what was heard of it.
+#![tactic(auto)]
+
 ghost use Rattle.std.specs.Prelude.{◌≡◌};
 ghost use Rattle.block_encoder.specs.Encoding.{count_sent};
 ghost use Rattle.trial.specs.Tried.{Tried};

@@ -1,4 +1,6 @@
 // Walsh words, the fast transform that correlates 64 counts with all of them, and the energy of these correlations.
+#![tactic(auto)]
+
 ghost use Rattle.std.specs.Prelude.{◌≡◌, ◌≤◌};
 ghost use Rattle.lists.specs.Lists.{at};
 ghost use Rattle.walsh.specs.Words.{minus, corr, correlations_of};

@@ -1,4 +1,6 @@
 // The range check of weights: the first that is too great. Document 02, order 3, refusal 14.
+#![tactic(auto)]
+
 ghost use Rattle.std.specs.Prelude.{◌≡◌, ltb, length};
 ghost use Rattle.weight_range.specs.Range.{first_bad_weight};
 

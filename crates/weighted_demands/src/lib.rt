@@ -1,4 +1,6 @@
 // Hearing with weights, document 02's order 3: laws over `block_encoder` and `block_decoder`, demand 3 among them.
+#![tactic(auto)]
+
 use block_decoder::BlockDecoded;
 use block_encoder::Encoded;
 

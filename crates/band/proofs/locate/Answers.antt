@@ -27,7 +27,6 @@ returns-then-number-ne-NONE c =
 
 -- what holds where the settings are right, then where the measurement is finite, then where it is in the band
 
-
 right : (c : goal.Else-number-ne-NONE) → let a = c.args in fault a.mode a.width a.centre 0 ≡ 0
 right c = sym c.fault-number.ensures ∙ c.if-number-ne-NONE.false
 
@@ -71,8 +70,11 @@ returns c =
     let a = band.args in
     let settings = right band.before.before.before in
     let owner = owner_found _ _ _ _ settings c.owner-tone.result (rw band.band_of-band.ensures at c.owner-tone.ensures) in
-    let few = (owner_owns _ _ _ _ settings (is_in_band inside)).0 in record { answer = (told _ _ _ _ _
-    (rw (c.hertz.ensures, band.band_of-band.ensures, owner, tone_hertz_exact _ _ _ settings _ few)
-    (located_heard _ _ _ _ settings (is_finite band.before) (is_in_band inside)))).0; refusal = (told _ _ _ _ _
-    (rw (c.hertz.ensures, band.band_of-band.ensures, owner, tone_hertz_exact _ _ _ settings _ few)
-    (located_heard _ _ _ _ settings (is_finite band.before) (is_in_band inside)))).1 }
+    let few = (owner_owns _ _ _ _ settings (is_in_band inside)).0 in record {
+      answer = (told _ _ _ _ _
+          (rw (c.hertz.ensures, band.band_of-band.ensures, owner, tone_hertz_exact _ _ _ settings _ few)
+          (located_heard _ _ _ _ settings (is_finite band.before) (is_in_band inside)))).0;
+      refusal = (told _ _ _ _ _
+          (rw (c.hertz.ensures, band.band_of-band.ensures, owner, tone_hertz_exact _ _ _ settings _ few)
+          (located_heard _ _ _ _ settings (is_finite band.before) (is_in_band inside)))).1;
+    }

@@ -22,16 +22,22 @@ returns-then-codes-b c = record { answer = (refusal_told_lem _ _ _ c.at-then-cod
 
 pub returns-then-tones-lt64 : goal.returns-then-tones-lt64
 returns-then-tones-lt64 c =
-    let a = c.args in record { answer = (refusal_told_lem _ _ _ c.at-then-tones-lt64.ensures
-    (refuses_room a.mode a.codes.now (length a.tones.now) (mode_known c.before.before.before) c.if-codes-b.false (omega (arith, c.if-tones-lt64.true)))).0; output = (refusal_told_lem _ _ _ c.at-then-tones-lt64.ensures
-    (refuses_room a.mode a.codes.now (length a.tones.now) (mode_known c.before.before.before) c.if-codes-b.false (omega (arith, c.if-tones-lt64.true)))).1 }
+    let a = c.args in record {
+      answer = (refusal_told_lem _ _ _ c.at-then-tones-lt64.ensures
+          (refuses_room a.mode a.codes.now (length a.tones.now) (mode_known c.before.before.before) c.if-codes-b.false (omega (arith, c.if-tones-lt64.true)))).0;
+      output = (refusal_told_lem _ _ _ c.at-then-tones-lt64.ensures
+          (refuses_room a.mode a.codes.now (length a.tones.now) (mode_known c.before.before.before) c.if-codes-b.false (omega (arith, c.if-tones-lt64.true)))).1;
+    }
 
 pub returns-then-bad-b : goal.returns-then-bad-b
 returns-then-bad-b c =
     let f = c.before.before in
-    let e = f.before in record { answer = (refusal_told_lem _ _ _ (c.at-then-bad-b.ensures ∙ ap (refused_at 6) f.first_bad_code-bad.ensures)
-    (refuses_code _ _ _ (mode_known e.before.before) e.if-codes-b.false e.if-tones-lt64.false (rw f.first_bad_code-bad.ensures at c.if-bad-b.true))).0; output = (refusal_told_lem _ _ _ (c.at-then-bad-b.ensures ∙ ap (refused_at 6) f.first_bad_code-bad.ensures)
-    (refuses_code _ _ _ (mode_known e.before.before) e.if-codes-b.false e.if-tones-lt64.false (rw f.first_bad_code-bad.ensures at c.if-bad-b.true))).1 }
+    let e = f.before in record {
+      answer = (refusal_told_lem _ _ _ (c.at-then-bad-b.ensures ∙ ap (refused_at 6) f.first_bad_code-bad.ensures)
+          (refuses_code _ _ _ (mode_known e.before.before) e.if-codes-b.false e.if-tones-lt64.false (rw f.first_bad_code-bad.ensures at c.if-bad-b.true))).0;
+      output = (refusal_told_lem _ _ _ (c.at-then-bad-b.ensures ∙ ap (refused_at 6) f.first_bad_code-bad.ensures)
+          (refuses_code _ _ _ (mode_known e.before.before) e.if-codes-b.false e.if-tones-lt64.false (rw f.first_bad_code-bad.ensures at c.if-bad-b.true))).1;
+    }
 
 pub put_tones-requires : goal.put_tones-requires
 put_tones-requires c =

@@ -17,21 +17,24 @@ pub returns-in-Text : goal.returns-in-Text
 returns-in-Text c =
     let p = c.before.before in
     let e = p.at_most_eight.ensures in
-    let a = p.before.before.before.before.before in record { answer = (put_fitting
-    _
-    _
-    a.if-out-lt-ROOM.false
-    (put_as
-    _
-    (text_accepted _ _ _ a.in-Text.is ∙ ap (characters_text _ _) (sym e))
-    p.put_characters.ensures)).0; output = (put_fitting
-    _
-    _
-    a.if-out-lt-ROOM.false
-    (put_as
-    _
-    (text_accepted _ _ _ a.in-Text.is ∙ ap (characters_text _ _) (sym e))
-    p.put_characters.ensures)).1 }
+    let a = p.before.before.before.before.before in record {
+      answer = (put_fitting
+          _
+          _
+          a.if-out-lt-ROOM.false
+          (put_as
+          _
+          (text_accepted _ _ _ a.in-Text.is ∙ ap (characters_text _ _) (sym e))
+          p.put_characters.ensures)).0;
+      output = (put_fitting
+          _
+          _
+          a.if-out-lt-ROOM.false
+          (put_as
+          _
+          (text_accepted _ _ _ a.in-Text.is ∙ ap (characters_text _ _) (sym e))
+          p.put_characters.ensures)).1;
+    }
 
 pub returns-in-Refused : goal.returns-in-Refused
 returns-in-Refused c =

@@ -77,10 +77,13 @@ returns c =
     let d = l.before in
     let a = d.args in
     let done : w.loop-written.written ≡ a.mode = omega arith in
-    let clear : first_unclear_in a.mode a.least_lead d.decide-characters.result ≡ a.mode = sym l.loop-q.invariant.2 ∙ scan_end _ l.loop-q.q _ w.loop-q-test.false ∙ omega arith in record { answer = (rw done (
-      sym (clear_told a.mode a.least_lead _ d.decide-characters.result (found d) clear),
-      text_put a.mode a.least_lead _ d.decide-characters.result (found d) a.codes.now w.loop-written.codes (rw done at w.loop-written.invariant.3),
-    )).0; output = (rw done (
-      sym (clear_told a.mode a.least_lead _ d.decide-characters.result (found d) clear),
-      text_put a.mode a.least_lead _ d.decide-characters.result (found d) a.codes.now w.loop-written.codes (rw done at w.loop-written.invariant.3),
-    )).1 }
+    let clear : first_unclear_in a.mode a.least_lead d.decide-characters.result ≡ a.mode = sym l.loop-q.invariant.2 ∙ scan_end _ l.loop-q.q _ w.loop-q-test.false ∙ omega arith in record {
+      answer = (rw done (
+        sym (clear_told a.mode a.least_lead _ d.decide-characters.result (found d) clear),
+        text_put a.mode a.least_lead _ d.decide-characters.result (found d) a.codes.now w.loop-written.codes (rw done at w.loop-written.invariant.3),
+      )).0;
+      output = (rw done (
+        sym (clear_told a.mode a.least_lead _ d.decide-characters.result (found d) clear),
+        text_put a.mode a.least_lead _ d.decide-characters.result (found d) a.codes.now w.loop-written.codes (rw done at w.loop-written.invariant.3),
+      )).1;
+    }

@@ -27,16 +27,22 @@ returns-then-not-is_lead c =
 
 pub returns-then-tones-ne64 : goal.returns-then-tones-ne64
 returns-then-tones-ne64 c =
-    let l = c.before.before in record { answer = (refusal_told_lem _ _ _ _ 7 0 c.at-then-tones-ne64.ensures
-    (refuses_count _ _ _ _ _ _ (mode_known l.before.before) (lead_known l) (λ e. c.if-tones-ne64.true (sym (below_count _ _) ∙ e)))).0; output = (refusal_told_lem _ _ _ _ 7 0 c.at-then-tones-ne64.ensures
-    (refuses_count _ _ _ _ _ _ (mode_known l.before.before) (lead_known l) (λ e. c.if-tones-ne64.true (sym (below_count _ _) ∙ e)))).1 }
+    let l = c.before.before in record {
+      answer = (refusal_told_lem _ _ _ _ 7 0 c.at-then-tones-ne64.ensures
+          (refuses_count _ _ _ _ _ _ (mode_known l.before.before) (lead_known l) (λ e. c.if-tones-ne64.true (sym (below_count _ _) ∙ e)))).0;
+      output = (refusal_told_lem _ _ _ _ 7 0 c.at-then-tones-ne64.ensures
+          (refuses_count _ _ _ _ _ _ (mode_known l.before.before) (lead_known l) (λ e. c.if-tones-ne64.true (sym (below_count _ _) ∙ e)))).1;
+    }
 
 pub returns-then-codes-mode : goal.returns-then-codes-mode
 returns-then-codes-mode c =
     let n = c.before.before in
-    let l = n.before in record { answer = (refusal_told_lem _ _ _ _ 9 0 c.at-then-codes-mode.ensures
-    (refuses_room _ _ _ _ _ _ (mode_known l.before.before) (lead_known l) (below_count _ _ ∙ n.if-tones-ne64.false) (has_throughout 1 1 (omega arith)).count c.if-codes-mode.true)).0; output = (refusal_told_lem _ _ _ _ 9 0 c.at-then-codes-mode.ensures
-    (refuses_room _ _ _ _ _ _ (mode_known l.before.before) (lead_known l) (below_count _ _ ∙ n.if-tones-ne64.false) (has_throughout 1 1 (omega arith)).count c.if-codes-mode.true)).1 }
+    let l = n.before in record {
+      answer = (refusal_told_lem _ _ _ _ 9 0 c.at-then-codes-mode.ensures
+          (refuses_room _ _ _ _ _ _ (mode_known l.before.before) (lead_known l) (below_count _ _ ∙ n.if-tones-ne64.false) (has_throughout 1 1 (omega arith)).count c.if-codes-mode.true)).0;
+      output = (refusal_told_lem _ _ _ _ 9 0 c.at-then-codes-mode.ensures
+          (refuses_room _ _ _ _ _ _ (mode_known l.before.before) (lead_known l) (below_count _ _ ∙ n.if-tones-ne64.false) (has_throughout 1 1 (omega arith)).count c.if-codes-mode.true)).1;
+    }
 
 pub decide-requires : goal.decide-requires
 decide-requires c =

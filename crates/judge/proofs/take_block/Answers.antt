@@ -9,22 +9,28 @@ returns-then-not-is_readable c =
     let p = c.before.before.before in
     let t = p.before.before.before in
     let line = p.wrapping_add_u64.ensures in
-    let out = t.args.out.now in record { answer = (tells_as
-    out
-    (says_unreadable _ _ _ _ _ (sym t.is_readable.ensures ∙ not-true _ t.if-not-is_readable.true-raw))
-    (tells_text out _ c.stopped.ensures (rw (← line) p.put_unreadable.ensures))).0; output = (tells_as
-    out
-    (says_unreadable _ _ _ _ _ (sym t.is_readable.ensures ∙ not-true _ t.if-not-is_readable.true-raw))
-    (tells_text out _ c.stopped.ensures (rw (← line) p.put_unreadable.ensures))).1 }
+    let out = t.args.out.now in record {
+      answer = (tells_as
+          out
+          (says_unreadable _ _ _ _ _ (sym t.is_readable.ensures ∙ not-true _ t.if-not-is_readable.true-raw))
+          (tells_text out _ c.stopped.ensures (rw (← line) p.put_unreadable.ensures))).0;
+      output = (tells_as
+          out
+          (says_unreadable _ _ _ _ _ (sym t.is_readable.ensures ∙ not-true _ t.if-not-is_readable.true-raw))
+          (tells_text out _ c.stopped.ensures (rw (← line) p.put_unreadable.ensures))).1;
+    }
 
 pub returns : goal.returns
 returns c =
     let p = c.before.before in
     let d = p.before.before in
-    let t = d.before.before in record { answer = (tells_as
-    t.args.out.now
-    (says_decoded _ _ _ _ _ (sym t.is_readable.ensures ∙ not-false _ t.if-not-is_readable.false-raw) d.decide.ensures)
-    p.take_answer.ensures).0; output = (tells_as
-    t.args.out.now
-    (says_decoded _ _ _ _ _ (sym t.is_readable.ensures ∙ not-false _ t.if-not-is_readable.false-raw) d.decide.ensures)
-    p.take_answer.ensures).1 }
+    let t = d.before.before in record {
+      answer = (tells_as
+          t.args.out.now
+          (says_decoded _ _ _ _ _ (sym t.is_readable.ensures ∙ not-false _ t.if-not-is_readable.false-raw) d.decide.ensures)
+          p.take_answer.ensures).0;
+      output = (tells_as
+          t.args.out.now
+          (says_decoded _ _ _ _ _ (sym t.is_readable.ensures ∙ not-false _ t.if-not-is_readable.false-raw) d.decide.ensures)
+          p.take_answer.ensures).1;
+    }

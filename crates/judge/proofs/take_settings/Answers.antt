@@ -8,13 +8,16 @@ pub returns-then-not-is_pair : goal.returns-then-not-is_pair
 returns-then-not-is_pair c =
     let p = c.before.before.before in
     let t = p.before.before in
-    let out = t.args.out.now in record { answer = (tells_as
-    out
-    (says_no_pair _ _ (sym t.is_pair.ensures ∙ not-true _ t.if-not-is_pair.true-raw))
-    (tells_text out _ c.stopped.ensures p.put_unreadable.ensures)).0; output = (tells_as
-    out
-    (says_no_pair _ _ (sym t.is_pair.ensures ∙ not-true _ t.if-not-is_pair.true-raw))
-    (tells_text out _ c.stopped.ensures p.put_unreadable.ensures)).1 }
+    let out = t.args.out.now in record {
+      answer = (tells_as
+          out
+          (says_no_pair _ _ (sym t.is_pair.ensures ∙ not-true _ t.if-not-is_pair.true-raw))
+          (tells_text out _ c.stopped.ensures p.put_unreadable.ensures)).0;
+      output = (tells_as
+          out
+          (says_no_pair _ _ (sym t.is_pair.ensures ∙ not-true _ t.if-not-is_pair.true-raw))
+          (tells_text out _ c.stopped.ensures p.put_unreadable.ensures)).1;
+    }
 
 pub returns : goal.returns
 returns c =

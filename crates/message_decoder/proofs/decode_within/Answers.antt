@@ -47,9 +47,12 @@ is_whole-requires c =
 
 pub returns-then-not-is_whole : goal.returns-then-not-is_whole
 returns-then-not-is_whole c =
-    let w = c.before.before in record { answer = (refusal_told_lem _ _ _ _ _ c.at-then-not-is_whole.ensures
-    (refuses_count _ _ _ _ _ (mode_known w.before.before.before) (lead_known w.before) (sym w.is_whole.ensures ∙ c.if-not-is_whole.true))).0; output = (refusal_told_lem _ _ _ _ _ c.at-then-not-is_whole.ensures
-    (refuses_count _ _ _ _ _ (mode_known w.before.before.before) (lead_known w.before) (sym w.is_whole.ensures ∙ c.if-not-is_whole.true))).1 }
+    let w = c.before.before in record {
+      answer = (refusal_told_lem _ _ _ _ _ c.at-then-not-is_whole.ensures
+          (refuses_count _ _ _ _ _ (mode_known w.before.before.before) (lead_known w.before) (sym w.is_whole.ensures ∙ c.if-not-is_whole.true))).0;
+      output = (refusal_told_lem _ _ _ _ _ c.at-then-not-is_whole.ensures
+          (refuses_count _ _ _ _ _ (mode_known w.before.before.before) (lead_known w.before) (sym w.is_whole.ensures ∙ c.if-not-is_whole.true))).1;
+    }
 
 pub overflow_mul-total : goal.overflow_mul-total
 overflow_mul-total c =
@@ -123,8 +126,11 @@ returns-in-Text c =
     let d = t.before.before.before.before in
     let e = t.enum_told.given.1 in
     let a = d.before.args in
-    let codes = collected_front a.mode a.tones.now (length a.tones.now / 64) d.collect.new.1.1.1.1.0 _ (collected d e) in record { answer = (delivery_told a.limit a.mode a.least_lead a.tones.now a.text.now codes
-    (judges _ _ _ _ _ (hearable d.before.before) ∙ clear_told _ _ _ (text_told _ _ _ _ (sym (judged d) ∙ e)).0)
-    v.deliver.ensures.answer v.deliver.ensures.output).0; output = (delivery_told a.limit a.mode a.least_lead a.tones.now a.text.now codes
-    (judges _ _ _ _ _ (hearable d.before.before) ∙ clear_told _ _ _ (text_told _ _ _ _ (sym (judged d) ∙ e)).0)
-    v.deliver.ensures.answer v.deliver.ensures.output).1 }
+    let codes = collected_front a.mode a.tones.now (length a.tones.now / 64) d.collect.new.1.1.1.1.0 _ (collected d e) in record {
+      answer = (delivery_told a.limit a.mode a.least_lead a.tones.now a.text.now codes
+          (judges _ _ _ _ _ (hearable d.before.before) ∙ clear_told _ _ _ (text_told _ _ _ _ (sym (judged d) ∙ e)).0)
+          v.deliver.ensures.answer v.deliver.ensures.output).0;
+      output = (delivery_told a.limit a.mode a.least_lead a.tones.now a.text.now codes
+          (judges _ _ _ _ _ (hearable d.before.before) ∙ clear_told _ _ _ (text_told _ _ _ _ (sym (judged d) ∙ e)).0)
+          v.deliver.ensures.answer v.deliver.ensures.output).1;
+    }

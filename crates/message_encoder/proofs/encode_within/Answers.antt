@@ -49,9 +49,12 @@ pub returns-then-bad-text : goal.returns-then-bad-text
 returns-then-bad-text c =
     let f = c.before.before in
     let e = f.before in
-    let b = e.before in record { answer = (refusal_told_lem _ _ _ _ (c.at-then-bad-text.ensures ∙ ap (refused_at 6) f.first_bad_code-bad.ensures)
-    (refuses_code _ _ _ _ (mode_known b.before.before) b.if-limit-text.false (rw b.block_count-count.ensures at e.if-tones-count.false) (rw f.first_bad_code-bad.ensures at c.if-bad-text.true))).0; output = (refusal_told_lem _ _ _ _ (c.at-then-bad-text.ensures ∙ ap (refused_at 6) f.first_bad_code-bad.ensures)
-    (refuses_code _ _ _ _ (mode_known b.before.before) b.if-limit-text.false (rw b.block_count-count.ensures at e.if-tones-count.false) (rw f.first_bad_code-bad.ensures at c.if-bad-text.true))).1 }
+    let b = e.before in record {
+      answer = (refusal_told_lem _ _ _ _ (c.at-then-bad-text.ensures ∙ ap (refused_at 6) f.first_bad_code-bad.ensures)
+          (refuses_code _ _ _ _ (mode_known b.before.before) b.if-limit-text.false (rw b.block_count-count.ensures at e.if-tones-count.false) (rw f.first_bad_code-bad.ensures at c.if-bad-text.true))).0;
+      output = (refusal_told_lem _ _ _ _ (c.at-then-bad-text.ensures ∙ ap (refused_at 6) f.first_bad_code-bad.ensures)
+          (refuses_code _ _ _ _ (mode_known b.before.before) b.if-limit-text.false (rw b.block_count-count.ensures at e.if-tones-count.false) (rw f.first_bad_code-bad.ensures at c.if-bad-text.true))).1;
+    }
 
 -- what the checks of mode and text leave
 sendable : (c : goal.Else-bad-text) → let a = c.args in Sendable a.limit a.mode a.text.now

@@ -14,7 +14,6 @@ use Rattle.olivia.proofs.olivia_check_tones.Goals as goal
 
 -- ---- each answer, under the checks that lead to it
 
-
 module _ (b : ℕ) (tones : List ℕ) where
   no_mode : is_mode b ≡ false → looked_answer 1 0 0 ≡ looked_told b tones
   unfolding looked_told
@@ -30,7 +29,6 @@ module _ (b : ℕ) (tones : List ℕ) where
     good_tones h = rw (← p, ← k, mode, le-ltb place (length tones) h)
 
 -- ---- the calls
-
 
 pub returns-then-not-is_mode : goal.returns-then-not-is_mode
 returns-then-not-is_mode c =

@@ -19,6 +19,9 @@ pub returns : goal.returns
 unfolding unreadable_text ascii tab
 returns c =
     let l = c.before.before in
-    let s = l.before.before.before.before.before in record { answer = (put_fitting (unreadable_text s.args.line) s.args.out.now c.if-out-lt-ROOM.false
-    (put_whole (unreadable_text s.args.line) s.args.out.now (omega (arith, field_length s.args.line line_feed (omega arith))) l.put_labelled.ensures)).0; output = (put_fitting (unreadable_text s.args.line) s.args.out.now c.if-out-lt-ROOM.false
-    (put_whole (unreadable_text s.args.line) s.args.out.now (omega (arith, field_length s.args.line line_feed (omega arith))) l.put_labelled.ensures)).1 }
+    let s = l.before.before.before.before.before in record {
+      answer = (put_fitting (unreadable_text s.args.line) s.args.out.now c.if-out-lt-ROOM.false
+          (put_whole (unreadable_text s.args.line) s.args.out.now (omega (arith, field_length s.args.line line_feed (omega arith))) l.put_labelled.ensures)).0;
+      output = (put_fitting (unreadable_text s.args.line) s.args.out.now c.if-out-lt-ROOM.false
+          (put_whole (unreadable_text s.args.line) s.args.out.now (omega (arith, field_length s.args.line line_feed (omega arith))) l.put_labelled.ensures)).1;
+    }

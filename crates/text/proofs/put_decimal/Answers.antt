@@ -11,6 +11,9 @@ returns c =
     let made = put.before.before.before.before.before in
     let a = made.before.args in
     let before = made.put-before in
-    let text = before.new.1.1.0 in record { answer = (put_as a.out.now put.put_text.ensures
-    (decimal_part (replicate 20 0) text a.n before.result 20 before.ensures.0 (omega arith) before.ensures.1)).0; output = (put_as a.out.now put.put_text.ensures
-    (decimal_part (replicate 20 0) text a.n before.result 20 before.ensures.0 (omega arith) before.ensures.1)).1 }
+    let text = before.new.1.1.0 in record {
+      answer = (put_as a.out.now put.put_text.ensures
+          (decimal_part (replicate 20 0) text a.n before.result 20 before.ensures.0 (omega arith) before.ensures.1)).0;
+      output = (put_as a.out.now put.put_text.ensures
+          (decimal_part (replicate 20 0) text a.n before.result 20 before.ensures.0 (omega arith) before.ensures.1)).1;
+    }

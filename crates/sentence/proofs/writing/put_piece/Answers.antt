@@ -11,12 +11,18 @@ returns-then-p-eq-PLACE_MARK c =
 
 pub returns-then-p-eq-LEAD_MARK : goal.returns-then-p-eq-LEAD_MARK
 returns-then-p-eq-LEAD_MARK c =
-    let a = c.args in record { answer = (put_as a.out.now c.put_decimal-then-p-eq-LEAD_MARK.ensures
-    (sym (text_at_lead a.place a.lead a.p c.if-p-eq-PLACE_MARK.false c.if-p-eq-LEAD_MARK.true))).0; output = (put_as a.out.now c.put_decimal-then-p-eq-LEAD_MARK.ensures
-    (sym (text_at_lead a.place a.lead a.p c.if-p-eq-PLACE_MARK.false c.if-p-eq-LEAD_MARK.true))).1 }
+    let a = c.args in record {
+      answer = (put_as a.out.now c.put_decimal-then-p-eq-LEAD_MARK.ensures
+          (sym (text_at_lead a.place a.lead a.p c.if-p-eq-PLACE_MARK.false c.if-p-eq-LEAD_MARK.true))).0;
+      output = (put_as a.out.now c.put_decimal-then-p-eq-LEAD_MARK.ensures
+          (sym (text_at_lead a.place a.lead a.p c.if-p-eq-PLACE_MARK.false c.if-p-eq-LEAD_MARK.true))).1;
+    }
 
 pub returns : goal.returns
 returns c =
-    let a = c.args in record { answer = (put_as a.out.now c.put_text.ensures
-    (sym (text_at_byte a.place a.lead a.p c.if-p-eq-PLACE_MARK.false c.if-p-eq-LEAD_MARK.false))).0; output = (put_as a.out.now c.put_text.ensures
-    (sym (text_at_byte a.place a.lead a.p c.if-p-eq-PLACE_MARK.false c.if-p-eq-LEAD_MARK.false))).1 }
+    let a = c.args in record {
+      answer = (put_as a.out.now c.put_text.ensures
+          (sym (text_at_byte a.place a.lead a.p c.if-p-eq-PLACE_MARK.false c.if-p-eq-LEAD_MARK.false))).0;
+      output = (put_as a.out.now c.put_text.ensures
+          (sym (text_at_byte a.place a.lead a.p c.if-p-eq-PLACE_MARK.false c.if-p-eq-LEAD_MARK.false))).1;
+    }

@@ -33,6 +33,9 @@ returns c =
     let a = c.args in
     let lead = c.most_lead.ensures in
     let size = c.filled_length.ensures in
-    let put = c.put_filled in record { answer = (room a.pattern.now a.place a.lead a.out.now (omega arith) (omega arith) (omega (arith, lead)) (omega (arith, size))
-    put.result _ put.ensures.0 put.ensures.1).0; output = (room a.pattern.now a.place a.lead a.out.now (omega arith) (omega arith) (omega (arith, lead)) (omega (arith, size))
-    put.result _ put.ensures.0 put.ensures.1).1 }
+    let put = c.put_filled in record {
+      answer = (room a.pattern.now a.place a.lead a.out.now (omega arith) (omega arith) (omega (arith, lead)) (omega (arith, size))
+          put.result _ put.ensures.0 put.ensures.1).0;
+      output = (room a.pattern.now a.place a.lead a.out.now (omega arith) (omega arith) (omega (arith, lead)) (omega (arith, size))
+          put.result _ put.ensures.0 put.ensures.1).1;
+    }
