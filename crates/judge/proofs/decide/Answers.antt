@@ -3,5 +3,4 @@ use Rattle.judge.proofs.decide.Goals as goal
 
 pub slice_bounds-decide_block-end : goal.slice_bounds-decide_block-end
 slice_bounds-decide_block-end c =
-    let a = c.before in
-    sym (length-take-le a.args.count a.args.tones.now (omega (arith, a.requires)))
+    sym (length-take-le c.args.count c.args.tones.now (omega (arith, c.requires)))

@@ -7,6 +7,5 @@ use Rattle.judge.proofs.refuse.Goals as goal
 
 pub returns : goal.returns
 returns c =
-    let p = c.before.before.before in
-    let out = p.args.out.now in
-    let at = ap (λ (r : Refusal). fitting (refused_text r) (length out)) (sym p.at.ensures) in record { answer = (tells_text out _ c.stopped.ensures (put_as out at p.Put-refused.ensures)).0; output = (tells_text out _ c.stopped.ensures (put_as out at p.Put-refused.ensures)).1 }
+    let out = c.args.out.now in
+    let at = ap (λ (r : Refusal). fitting (refused_text r) (length out)) (sym c.at.ensures) in let all = tells_text out _ c.stopped.ensures (put_as out at c.Put-refused.ensures) in record { answer = all.0; output = all.1 }

@@ -6,30 +6,14 @@ use Rattle.judge.proofs.take_answer.Goals as goal
 
 pub returns-then-not-goes_on : goal.returns-then-not-goes_on
 returns-then-not-goes_on c =
-    let t = c.before in
-    let p = t.before.before.before.before in
-    let out = p.args.out.now in record {
-      answer = (tells_as
+    let out = c.args.out.now in let all = tells_as
           out
-          (says_last _ _ _ _ (sym t.goes_on.ensures ∙ not-true _ t.if-not-goes_on.true-raw))
-          (tells_text out _ c.stopped.ensures p.put_block-written.ensures)).0;
-      output = (tells_as
-          out
-          (says_last _ _ _ _ (sym t.goes_on.ensures ∙ not-true _ t.if-not-goes_on.true-raw))
-          (tells_text out _ c.stopped.ensures p.put_block-written.ensures)).1;
-    }
+          (says_last _ _ _ _ (sym c.goes_on.ensures ∙ not-true _ c.if-not-goes_on.true-raw))
+          (tells_text out _ c.stopped.ensures (c.put_block-written.ensures.answer, c.put_block-written.ensures.output)) in record { answer = all.0; output = all.1 }
 
 pub returns : goal.returns
 returns c =
-    let t = c.before.before in
-    let p = t.before.before.before.before in
-    let out = p.args.out.now in record {
-      answer = (tells_as
+    let out = c.args.out.now in let all = tells_as
           out
-          (says_on _ _ _ _ (sym t.goes_on.ensures ∙ not-false _ t.if-not-goes_on.false-raw))
-          (tells_text out _ (rw (← c.wrapping_add_u64.ensures) c.before_line.ensures) p.put_block-written.ensures)).0;
-      output = (tells_as
-          out
-          (says_on _ _ _ _ (sym t.goes_on.ensures ∙ not-false _ t.if-not-goes_on.false-raw))
-          (tells_text out _ (rw (← c.wrapping_add_u64.ensures) c.before_line.ensures) p.put_block-written.ensures)).1;
-    }
+          (says_on _ _ _ _ (sym c.goes_on.ensures ∙ not-false _ c.if-not-goes_on.false-raw))
+          (tells_text out _ (rw (← c.wrapping_add_u64.ensures) c.before_line.ensures) (c.put_block-written.ensures.answer, c.put_block-written.ensures.output)) in record { answer = all.0; output = all.1 }

@@ -6,20 +6,11 @@ use Rattle.judge.proofs.take_settings.Goals as goal
 
 pub returns-then-not-is_pair : goal.returns-then-not-is_pair
 returns-then-not-is_pair c =
-    let p = c.before.before.before in
-    let t = p.before.before in
-    let out = t.args.out.now in record {
-      answer = (tells_as
+    let out = c.args.out.now in let all = tells_as
           out
-          (says_no_pair _ _ (sym t.is_pair.ensures ∙ not-true _ t.if-not-is_pair.true-raw))
-          (tells_text out _ c.stopped.ensures p.put_unreadable.ensures)).0;
-      output = (tells_as
-          out
-          (says_no_pair _ _ (sym t.is_pair.ensures ∙ not-true _ t.if-not-is_pair.true-raw))
-          (tells_text out _ c.stopped.ensures p.put_unreadable.ensures)).1;
-    }
+          (says_no_pair _ _ (sym c.is_pair.ensures ∙ not-true _ c.if-not-is_pair.true-raw))
+          (tells_text out _ c.stopped.ensures (c.put_unreadable.ensures.answer, c.put_unreadable.ensures.output)) in record { answer = all.0; output = all.1 }
 
 pub returns : goal.returns
 returns c =
-    let p = c.before.before in
-    let t = p.before.before.before.before in record { answer = (tells_as t.args.out.now (says_pair _ _ (sym t.is_pair.ensures ∙ not-false _ t.if-not-is_pair.false-raw)) p.check_settings.ensures).0; output = (tells_as t.args.out.now (says_pair _ _ (sym t.is_pair.ensures ∙ not-false _ t.if-not-is_pair.false-raw)) p.check_settings.ensures).1 }
+    let all = tells_as c.args.out.now (says_pair _ _ (sym c.is_pair.ensures ∙ not-false _ c.if-not-is_pair.false-raw)) (c.check_settings.ensures.answer, c.check_settings.ensures.output) in record { answer = all.0; output = all.1 }

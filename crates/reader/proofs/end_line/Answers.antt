@@ -13,8 +13,7 @@ line_of-requires c = c.end_word-ended.ensures.small.0
 
 pub returns : goal.returns
 returns c =
-    let s = c.before.before.before in
-    let a = s.args in
-    let e = begun_ends a.line a.tones.now (sym s.is_blank.ensures ∙ s.if-is_blank.false) in
+    let a = c.args in
+    let e = begun_ends a.line a.tones.now (sym c.is_blank.ensures ∙ c.if-is_blank.false) in
     let ended = c.end_word-ended.ensures in
-    let line = s.begun.ensures.answer in record { answer = c.Line-of.ensures ∙ ended.0 ∙ ap word_end line ∙ sym e.0; output = ended.1.1 ∙ ap (λ (l : Line). kept_tone l a.tones.now) line ∙ sym e.1 }
+    let line = c.begun.ensures.answer in record { answer = c.Line-of.ensures ∙ ended.answer ∙ ap word_end line ∙ sym e.0; output = ended.output ∙ ap (λ (l : Line). kept_tone l a.tones.now) line ∙ sym e.1 }

@@ -24,19 +24,16 @@ line_of-requires c = c.loop-at.invariant.0
 
 pub returns-then-byte-eq-LINE_FEED : goal.returns-then-byte-eq-LINE_FEED
 returns-then-byte-eq-LINE_FEED c =
-    let i = c.before.before.before.before.before in
-    let l = i.loop-at in
-    let s = i.before.before in record { answer = (all_read _ _ _ _ _ l.invariant.1 c.Line-of.ensures s.begun-reading.ensures.answer (feed_first _ _ (omega arith) c.if-byte-eq-LINE_FEED.true)).0; output = (all_read _ _ _ _ _ l.invariant.1 c.Line-of.ensures s.begun-reading.ensures.answer (feed_first _ _ (omega arith) c.if-byte-eq-LINE_FEED.true)).1 }
+    let l = c.loop-at in
+    let all = all_read _ _ _ _ _ l.invariant.1 c.Line-of.ensures c.begun-reading.ensures.answer (feed_first _ _ (omega arith) c.if-byte-eq-LINE_FEED.true) in record { answer = all.0; output = all.1 }
 
 pub with_other-reading-requires : goal.with_other-reading-requires
 with_other-reading-requires c =
-    let i = c.before.before in
-    (i.loop-at.invariant.0, sym i.is_digit.ensures ∙ i.if-is_digit.false)
+    (c.loop-at.invariant.0, sym c.is_digit.ensures ∙ c.if-is_digit.false)
 
 pub loop-at-preserved : goal.loop-at-preserved
 loop-at-preserved c =
-    let i = c.before.before.before.before in
-    let l = i.loop-at in
+    let l = c.loop-at in
     ⊎_elim
     (λ w.
     let digit = sym c.is_digit.ensures ∙ w.0.taken in
@@ -58,4 +55,4 @@ line_of-requires-2 c = c.loop-at.invariant.0
 pub returns : goal.returns
 returns c =
     let l = c.loop-at in
-    let s = c.before.before.before in record { answer = (all_read _ _ _ _ _ l.invariant.1 c.line_of-2.ensures s.begun-reading.ensures.answer (none_left _ _ (omega arith))).0; output = (all_read _ _ _ _ _ l.invariant.1 c.line_of-2.ensures s.begun-reading.ensures.answer (none_left _ _ (omega arith))).1 }
+    let all = all_read _ _ _ _ _ l.invariant.1 c.line_of-2.ensures c.begun-reading.ensures.answer (none_left _ _ (omega arith)) in record { answer = all.0; output = all.1 }

@@ -14,31 +14,26 @@ small s = held_small s.args.character _ s.well_formed.1.1.0
 
 first_short : (c : goal.After-put_decided-words) → c.put_decided-words.result ≤ 64
 first_short c =
-    let s = c.before.before.before in
-    omega (arith, c.put_decided-words.ensures.answer, decided_length s.args.character (small s) s.args.block s.args.q (omega arith) (omega arith))
+    omega (arith, c.put_decided-words.ensures.answer, decided_length c.args.character (small c) c.args.block c.args.q (omega arith) (omega arith))
 
 second_short : (c : goal.After-put_decided-words) → length (words_text c.args.character) ≤ 46
-second_short c = let s = c.before.before.before in words_length s.args.character (small s)
+second_short c = words_length c.args.character (small c)
 
 pub slice_bounds-put_words-count : goal.slice_bounds-put_words-count
 slice_bounds-put_words-count c =
-    let f = c.before.before in
-    put_within _ _ f.put_decided-words.ensures (omega (arith, first_short f))
+    put_within _ _ (c.put_decided-words.ensures.answer, c.put_decided-words.ensures.output) (omega (arith, first_short c))
 
 pub slice_bounds-put_words-start : goal.slice_bounds-put_words-start
 slice_bounds-put_words-start c = slice_bounds-put_words-count c
 
 pub put_words-requires : goal.put_words-requires
 put_words-requires c =
-    let f = c.before.before.before in
-    put_room _ _ f.put_decided-words.ensures 46 (omega (arith, first_short f))
+    put_room _ _ (c.put_decided-words.ensures.answer, c.put_decided-words.ensures.output) 46 (omega (arith, first_short c))
 
 pub overflow_add-result : goal.overflow_add-result
 overflow_add-result c =
-    let g = c.before.before in
-    let f = g.before.before.before.before in
-    omega (arith, first_short f, g.put_words.ensures.answer, second_short f)
+    omega (arith, first_short c, c.put_words.ensures.answer, second_short c)
 
 pub returns : goal.returns
 unfolding character_text
-returns c = record { answer = (put_after _ _ c.put_decided-words.ensures _ c.put_words.ensures).0; output = (put_after _ _ c.put_decided-words.ensures _ c.put_words.ensures).1 }
+returns c = let all = put_after _ _ (c.put_decided-words.ensures.answer, c.put_decided-words.ensures.output) _ (c.put_words.ensures.answer, c.put_words.ensures.output) in record { answer = all.0; output = all.1 }

@@ -13,10 +13,10 @@ first_short : (c : goal.After-put_field-at) → length (field c.args.first space
 first_short c = field_length c.args.first space (omega arith)
 
 first : (c : goal.After-put_field-at) → let a = c.args in Put (field a.first space) a.out.now c.put_field-at.result c.put_field-at.new.out
-first c = put_whole _ _ (omega (arith, first_short c)) c.put_field-at.ensures
+first c = put_whole _ _ (omega (arith, first_short c)) (c.put_field-at.ensures.answer, c.put_field-at.ensures.output)
 
 pub slice_bounds-put_field-count : goal.slice_bounds-put_field-count
-slice_bounds-put_field-count c = let f = c.before.before in put_within _ _ (first f) (omega (arith, (first f).0, first_short f))
+slice_bounds-put_field-count c = put_within _ _ (first c) (omega (arith, (first c).0, first_short c))
 
 pub slice_bounds-put_field-start : goal.slice_bounds-put_field-start
 slice_bounds-put_field-start c = slice_bounds-put_field-count c
@@ -26,11 +26,8 @@ second_short c = let a = c.args in field_length a.second a.end (omega arith)
 
 pub overflow_add-result : goal.overflow_add-result
 overflow_add-result c =
-    let g = c.before.before in
-    let f = g.before.before.before.before in
-    omega (arith, (first f).0, first_short f, second_short f, (put_rest _ _ (first f) _ (omega (arith, (first f).0, first_short f, second_short f)) g.put_field.ensures).0)
+    omega (arith, (first c).0, first_short c, second_short c, (put_rest _ _ (first c) _ (omega (arith, (first c).0, first_short c, second_short c)) (c.put_field.ensures.answer, c.put_field.ensures.output)).0)
 
 pub returns : goal.returns
 returns c =
-    let g = c.before.before in
-    let f = g.before.before.before.before in record { answer = (put_after _ _ (first f) _ (put_rest _ _ (first f) _ (omega (arith, (first f).0, first_short f, second_short f)) g.put_field.ensures)).0; output = (put_after _ _ (first f) _ (put_rest _ _ (first f) _ (omega (arith, (first f).0, first_short f, second_short f)) g.put_field.ensures)).1 }
+    let all = put_after _ _ (first c) _ (put_rest _ _ (first c) _ (omega (arith, (first c).0, first_short c, second_short c)) (c.put_field.ensures.answer, c.put_field.ensures.output)) in record { answer = all.0; output = all.1 }

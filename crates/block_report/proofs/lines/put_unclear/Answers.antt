@@ -15,27 +15,23 @@ first_short c =
     omega (arith, c.put_marked-words.ensures.answer, marked_length a.block a.refusal (omega arith) (omega arith) (omega arith))
 
 second_short : (c : goal.After-put_marked-words) → length (words_text c.args.character) ≤ 46
-second_short c = let s = c.before.before.before in words_length s.args.character (held_small s.args.character _ s.well_formed.1.1.0)
+second_short c = words_length c.args.character (held_small c.args.character _ c.well_formed.1.1.0)
 
 pub slice_bounds-put_words-count : goal.slice_bounds-put_words-count
 slice_bounds-put_words-count c =
-    let f = c.before.before in
-    put_within _ _ f.put_marked-words.ensures (omega (arith, first_short f))
+    put_within _ _ (c.put_marked-words.ensures.answer, c.put_marked-words.ensures.output) (omega (arith, first_short c))
 
 pub slice_bounds-put_words-start : goal.slice_bounds-put_words-start
 slice_bounds-put_words-start c = slice_bounds-put_words-count c
 
 pub put_words-requires : goal.put_words-requires
 put_words-requires c =
-    let f = c.before.before.before in
-    put_room _ _ f.put_marked-words.ensures 46 (omega (arith, first_short f))
+    put_room _ _ (c.put_marked-words.ensures.answer, c.put_marked-words.ensures.output) 46 (omega (arith, first_short c))
 
 pub overflow_add-result : goal.overflow_add-result
 overflow_add-result c =
-    let g = c.before.before in
-    let f = g.before.before.before.before in
-    omega (arith, first_short f, g.put_words.ensures.answer, second_short f)
+    omega (arith, first_short c, c.put_words.ensures.answer, second_short c)
 
 pub returns : goal.returns
 unfolding unclear_text
-returns c = record { answer = (put_after _ _ c.put_marked-words.ensures _ c.put_words.ensures).0; output = (put_after _ _ c.put_marked-words.ensures _ c.put_words.ensures).1 }
+returns c = let all = put_after _ _ (c.put_marked-words.ensures.answer, c.put_marked-words.ensures.output) _ (c.put_words.ensures.answer, c.put_words.ensures.output) in record { answer = all.0; output = all.1 }

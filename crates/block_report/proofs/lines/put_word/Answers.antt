@@ -16,29 +16,24 @@ first_short : (c : goal.After-put_field-at) → length (field c.args.word space)
 first_short c = field_length_32 c.args.word space (omega arith)
 
 first : (c : goal.After-put_field-at) → let a = c.args in Put (field a.word space) a.out.now c.put_field-at.result c.put_field-at.new.out
-first c = put_whole _ _ (omega (arith, first_short c)) c.put_field-at.ensures
+first c = put_whole _ _ (omega (arith, first_short c)) (c.put_field-at.ensures.answer, c.put_field-at.ensures.output)
 
 pub slice_bounds-put_signed_field-count : goal.slice_bounds-put_signed_field-count
-slice_bounds-put_signed_field-count c = let f = c.before.before in put_within _ _ (first f) (omega (arith, (first f).0, first_short f))
+slice_bounds-put_signed_field-count c = put_within _ _ (first c) (omega (arith, (first c).0, first_short c))
 
 pub slice_bounds-put_signed_field-start : goal.slice_bounds-put_signed_field-start
 slice_bounds-put_signed_field-start c = slice_bounds-put_signed_field-count c
 
 second_short : (c : goal.After-put_field-at) → let a = c.args in length (signed_field a.correlation a.end) ≤ 12
 second_short c =
-    let s = c.before.before.before in
-    signed_field_length s.args.correlation s.args.end (omega (arith, nat_abs-le s.args.correlation s.ranges.correlation.sfits))
+    signed_field_length c.args.correlation c.args.end (omega (arith, nat_abs-le c.args.correlation c.ranges.correlation.sfits))
 
 pub overflow_add-result : goal.overflow_add-result
 overflow_add-result c =
-    let g = c.before.before in
-    let f = g.before.before.before.before in
-    let told = rw (to_z-of_z f.ranges.correlation) at g.put_signed_field.ensures in
-    omega (arith, (first f).0, first_short f, second_short f, (put_rest _ _ (first f) _ (omega (arith, (first f).0, first_short f, second_short f)) told).0)
+    let told = rw (to_z-of_z c.ranges.correlation) at (c.put_signed_field.ensures.answer, c.put_signed_field.ensures.output) in
+    omega (arith, (first c).0, first_short c, second_short c, (put_rest _ _ (first c) _ (omega (arith, (first c).0, first_short c, second_short c)) told).0)
 
 pub returns : goal.returns
 unfolding word_text
 returns c =
-    let g = c.before.before in
-    let f = g.before.before.before.before in
-    let told = rw (to_z-of_z f.ranges.correlation) at g.put_signed_field.ensures in record { answer = (put_after _ _ (first f) _ (put_rest _ _ (first f) _ (omega (arith, (first f).0, first_short f, second_short f)) told)).0; output = (put_after _ _ (first f) _ (put_rest _ _ (first f) _ (omega (arith, (first f).0, first_short f, second_short f)) told)).1 }
+    let told = rw (to_z-of_z c.ranges.correlation) at (c.put_signed_field.ensures.answer, c.put_signed_field.ensures.output) in let all = put_after _ _ (first c) _ (put_rest _ _ (first c) _ (omega (arith, (first c).0, first_short c, second_short c)) told) in record { answer = all.0; output = all.1 }

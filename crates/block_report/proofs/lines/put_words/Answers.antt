@@ -20,44 +20,35 @@ small s = held_small s.args.character _ s.well_formed.0
 fit : (s : goal.Start) → SFits w32 s.args.character.correlation × SFits w32 s.args.character.next_correlation
 fit s = correlations_fit s.args.character _ s.well_formed.0
 
-first : (c : goal.After-put_word-next) → let s = c.before.before.before.before in
-    Put (word_text s.args.character.word s.args.character.correlation space) s.args.out.now c.put_word-next.result c.put_word-next.new.out
-first c = rw (to_z-of_z (fit c.before.before.before.before).0) at c.put_word-next.ensures
+first : (c : goal.After-put_word-next) → Put (word_text c.args.character.word c.args.character.correlation space) c.args.out.now c.put_word-next.result c.put_word-next.new.out
+first c = rw (to_z-of_z (fit c).0) at (c.put_word-next.ensures.answer, c.put_word-next.ensures.output)
 
 first_short : (c : goal.After-put_word-next) → c.put_word-next.result ≤ 23
 first_short c =
-    let s = c.before.before.before.before in
-    omega (arith, (first c).0, word_length s.args.character.word s.args.character.correlation space (small s).word (small s).correlation)
+    omega (arith, (first c).0, word_length c.args.character.word c.args.character.correlation space (small c).word (small c).correlation)
 
 second_short : (c : goal.After-put_word-next) → let d = c.args.character in length (word_text d.next d.next_correlation line_feed) ≤ 23
 second_short c =
-    let s = c.before.before.before.before in
-    word_length s.args.character.next s.args.character.next_correlation line_feed (small s).next (small s).next_correlation
+    word_length c.args.character.next c.args.character.next_correlation line_feed (small c).next (small c).next_correlation
 
 pub slice_bounds-put_word-count : goal.slice_bounds-put_word-count
 slice_bounds-put_word-count c =
-    let f = c.before.before in
-    put_within _ _ (first f) (omega (arith, first_short f))
+    put_within _ _ (first c) (omega (arith, first_short c))
 
 pub slice_bounds-put_word-start : goal.slice_bounds-put_word-start
 slice_bounds-put_word-start c = slice_bounds-put_word-count c
 
 pub put_word-requires : goal.put_word-requires
 put_word-requires c =
-    let f = c.before.before.before.before in
-    put_room _ _ (first f) 23 (omega (arith, first_short f))
+    put_room _ _ (first c) 23 (omega (arith, first_short c))
 
 pub overflow_add-result : goal.overflow_add-result
 overflow_add-result c =
-    let g = c.before.before in
-    let f = g.before.before.before.before.before in
-    let s = f.before.before.before.before in
-    let told : g.put_word.result ≡ length (word_text s.args.character.next s.args.character.next_correlation line_feed) =
-    rw (to_z-of_z (fit s).1) at g.put_word.ensures.answer in
-    omega (arith, first_short f, second_short f)
+    let told : c.put_word.result ≡ length (word_text c.args.character.next c.args.character.next_correlation line_feed) =
+    rw (to_z-of_z (fit c).1) at c.put_word.ensures.answer in
+    omega (arith, first_short c, second_short c)
 
 pub returns : goal.returns
 unfolding words_text
 returns c =
-    let g = c.before.before in
-    let f = g.before.before.before.before.before in record { answer = (put_after _ _ (first f) _ (rw (to_z-of_z (fit f.before.before.before.before).1) at g.put_word.ensures)).0; output = (put_after _ _ (first f) _ (rw (to_z-of_z (fit f.before.before.before.before).1) at g.put_word.ensures)).1 }
+    let all = put_after _ _ (first c) _ (rw (to_z-of_z (fit c).1) at (c.put_word.ensures.answer, c.put_word.ensures.output)) in record { answer = all.0; output = all.1 }
