@@ -1,10 +1,8 @@
 use mathlib.Core.Path.{◌≡◌, refl}
-use Prim.Native.Nat.{◌-◌, ◌≤◌}
 use native.Mathlib.Omega.{arith}
-use borrow.Author.Rules.{rules}
 use Rattle.lists.specs.Lists.{at}
 use Rattle.lists.specs.Sums.{total}
-use Rattle.walsh.specs.Energy.{square, energy}
+use Rattle.walsh.specs.Energy.{energy}
 use Rattle.walsh.proofs.Energies.{Next, next}
 use Rattle.walsh.proofs.sum_of_squares.Goals as goal
 
@@ -17,7 +15,7 @@ added : (c : goal.After-correlation-1) → let l = c.before.before in Next (at l
 added c = let l = c.before.before in next (at l.args.correlations) l.loop-word.word (omega (arith, c.loop-word-test.true)) l.requires
 
 pub overflow_mul-sum : goal.overflow_mul-sum
-overflow_mul-sum c = (added c).ranges
+overflow_mul-sum c = (added c).fits
 
 pub overflow_cast-sum : goal.overflow_cast-sum
 overflow_cast-sum c = rw (added c).value (tt, omega (arith, (added c).small))

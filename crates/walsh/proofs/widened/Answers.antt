@@ -1,12 +1,12 @@
 use mathlib.Core.Path.{◌≡◌, refl, sym, ◌∙◌}
-use Prim.Native.Nat.{◌-◌, ◌<◌, ◌≤◌}
+use Prim.Native.Nat.{◌<◌}
 use native.Mathlib.Omega.{arith}
 use lib.IntN.{pos}
 use lib.Signed.{mag}
-use lib.ListN.{length, take, length-set}
+use lib.ListN.{length, length-set}
 use lib.Seq.{take_all, take-suc, take-suc-set}
 use native.Mathlib.Numerals.{add-one}
-use mir.Syntax.{w32}
+use mir.Syntax.{w8, w32}
 use mir.Val.{to_z, of_z}
 use mir.Facts.{to_z-of_z}
 use borrow.Author.Rules.{rules}
@@ -25,7 +25,7 @@ loop-i-preserved c =
     let counts = c.args.counts in
     let read : mag (at counts l.i) < 128 = c.wide-arg-1.given in
     let value : to_z w32 (of_z w32 c.wide.result) ≡ at counts l.i =
-    to_z-of_z (record { sfits = c.wide.type_inv }) ∙ c.wide.ensures ∙ to_z-of_z (record { sfits = read }) in
+    to_z-of_z {w = w32} (record { sfits = c.wide.type_inv }) ∙ c.wide.ensures ∙ to_z-of_z {w = w8} (record { sfits = read }) in
     let inside : l.i < length l.x = omega arith in
     let inside-counts : l.i < length counts = omega arith in (
       omega arith,
