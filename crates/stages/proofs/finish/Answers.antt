@@ -1,4 +1,3 @@
-use borrow.Author.Rules.{rules}
 use Rattle.report.proofs.Puts.{put_nothing}
 use Rattle.stages.specs.Stages.{ending_text}
 use Rattle.stages.proofs.finish.Goals as goal
@@ -13,4 +12,4 @@ returns-in-Blocks c = record { answer = rw c.in-Blocks.is c.put_end.ensures.answ
 
 pub returns-in-Stopped : goal.returns-in-Stopped
 unfolding ending_text
-returns-in-Stopped c = let all = rw c.in-Stopped.is (put_nothing c.args.out.now) in record { answer = all.0; output = all.1 }
+returns-in-Stopped c = let none = put_nothing c.args.out.now in record { answer = rw c.in-Stopped.is none.0; output = rw c.in-Stopped.is none.1 }
