@@ -22,7 +22,7 @@ loop-t-preserved c =
     let l = c.loop-t in
     let a = c.args in
     let value : to_z w8 (of_z w8 c.count.result) ≡ count_at a.signs a.weights.now l.t =
-    to_z-of_z (record { sfits = c.count.type_inv }) ∙ c.count.ensures in
+    to_z-of_z {w = w8} (record { sfits = c.count.type_inv }) ∙ c.count.ensures in
     let inside : l.t < length l.counts = omega arith in (
       omega arith,
       length-set l.counts l.t _ ∙ l.invariant.1,

@@ -25,7 +25,7 @@ loop-i-preserved c =
     let l = c.loop-i in
     let numbers = c.args.numbers in
     let value : to_z w16 (of_z w16 c.narrow.result) ≡ pos (get_or numbers l.i 0) =
-    to_z-of_z (record { sfits = c.narrow.type_inv }) ∙ c.narrow.ensures in
+    to_z-of_z {w = w16} (record { sfits = c.narrow.type_inv }) ∙ c.narrow.ensures in
     let inside : l.i < length l.x = omega arith in (
       omega arith,
       length-set l.x l.i _ ∙ l.invariant.1,
