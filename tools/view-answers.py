@@ -36,7 +36,7 @@ def turn(path, crate, fn, entry):
                 helpers[h.group(1)] = (p, h.group(2), h.group(3).strip(), h.group(4), h.group(5), h.group(6), h.group(7).strip())
     out = []
     for b in parts:
-        goal = re.search(r"^pub (\S+) : goal\.\1\n(?:unfolding [^\n]*\n)?\1(?: \S+)* (\S+) =", b, re.M)
+        goal = re.search(r"^pub (\S+) : goal\.\1\n(?:unfolding [^\n]*\n)?\1(?: [^\s=]+)* ([^\s=]+) =", b, re.M)
         if goal:
             g, c = goal.group(1), goal.group(2)
             for h, (p, *_) in helpers.items():

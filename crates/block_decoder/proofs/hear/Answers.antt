@@ -100,7 +100,7 @@ returns-then-bad_weight-lt64 c =
     (refuses_weight _ _ _ _ _ _ (passed (goal.at.returns-then-bad_weight-lt64 c).Else-room-b) (rw (range (goal.at.returns-then-bad_weight-lt64 c).After-look-bad) at w.if-bad-lt64.false) (rw w.first_bad_weight-bad_weight.ensures at c.if-bad_weight-lt64.true))).1 }
 
 pub heard_weights-heard-requires : goal.heard_weights-heard-requires
-heard_weights-heard-requires c = let p = passed (goal.at.heard_weights-heard-requires p).Else-room-b in (p.count, p.weighed)
+heard_weights-heard-requires c = let p = passed (goal.at.heard_weights-heard-requires c).Else-room-b in (p.count, p.weighed)
 
 -- 64 tones in range and 64 weights in range: their symbols and the weights that count
 symbols_seen : (c : After-first_bad_weight-bad_weight) → let f = c.before.before.before in f.look-bad.new.symbols ≡ seen_to f.args.tones.now 64

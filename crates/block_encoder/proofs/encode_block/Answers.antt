@@ -19,7 +19,7 @@ mode_known : (c : Else-not-is_mode) → is_mode c.args.mode ≡ true
 mode_known c = sym c.is_mode.ensures ∙ c.if-not-is_mode.false
 
 pub returns-then-codes-b : goal.returns-then-codes-b
-returns-then-codes-b c = record { answer = (refusal_told_lem _ _ _ c.at-then-codes-b.ensures (refuses_count _ _ _ (mode_known (goal.at.returns-then-codes-b output).Else-not-is_mode) c.if-codes-b.true)).0; output = (refusal_told_lem _ _ _ c.at-then-codes-b.ensures (refuses_count _ _ _ (mode_known (goal.at.returns-then-codes-b output).Else-not-is_mode) c.if-codes-b.true)).1 }
+returns-then-codes-b c = record { answer = (refusal_told_lem _ _ _ c.at-then-codes-b.ensures (refuses_count _ _ _ (mode_known (goal.at.returns-then-codes-b c).Else-not-is_mode) c.if-codes-b.true)).0; output = (refusal_told_lem _ _ _ c.at-then-codes-b.ensures (refuses_count _ _ _ (mode_known (goal.at.returns-then-codes-b c).Else-not-is_mode) c.if-codes-b.true)).1 }
 
 pub returns-then-tones-lt64 : goal.returns-then-tones-lt64
 returns-then-tones-lt64 c =

@@ -23,7 +23,7 @@ mode_known : (c : Else-not-is_mode) → is_mode c.args.mode ≡ true
 mode_known c = sym c.is_mode.ensures ∙ c.if-not-is_mode.false
 
 pub returns-then-limit-text : goal.returns-then-limit-text
-returns-then-limit-text c = record { answer = (refusal_told_lem _ _ _ _ c.at-then-limit-text.ensures (refuses_count _ _ _ _ (mode_known (goal.at.returns-then-limit-text output).Else-not-is_mode) c.if-limit-text.true)).0; output = (refusal_told_lem _ _ _ _ c.at-then-limit-text.ensures (refuses_count _ _ _ _ (mode_known (goal.at.returns-then-limit-text output).Else-not-is_mode) c.if-limit-text.true)).1 }
+returns-then-limit-text c = record { answer = (refusal_told_lem _ _ _ _ c.at-then-limit-text.ensures (refuses_count _ _ _ _ (mode_known (goal.at.returns-then-limit-text c).Else-not-is_mode) c.if-limit-text.true)).0; output = (refusal_told_lem _ _ _ _ c.at-then-limit-text.ensures (refuses_count _ _ _ _ (mode_known (goal.at.returns-then-limit-text c).Else-not-is_mode) c.if-limit-text.true)).1 }
 
 pub block_count-count-requires : goal.block_count-count-requires
 block_count-count-requires c =
