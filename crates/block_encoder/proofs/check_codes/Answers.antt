@@ -1,7 +1,5 @@
 use mathlib.Core.Path.{◌≡◌, sym, ◌∙◌, ap}
 use mathlib.Core.Bool.{true}
-use borrow.Author.Rules.{rules}
-use borrow.Author.Tests.{not-true, not-false}
 use Rattle.refusal.specs.Refused.{refused_at}
 use Rattle.refusal.specs.Checks.{is_mode}
 use Rattle.block_encoder.specs.declared.Checked.TheVariants.{Refused}

@@ -2,8 +2,6 @@ use mathlib.Core.Path.{◌≡◌, sym, ◌∙◌, ap}
 use mathlib.Core.Bool.{true}
 use native.Mathlib.Omega.{arith}
 use lib.ListN.{length}
-use borrow.Author.Rules.{rules}
-use borrow.Author.Tests.{not-true, not-false}
 use Rattle.refusal.specs.Refused.{refused_at}
 use Rattle.refusal.specs.Checks.{is_mode}
 use Rattle.block_encoder.proofs.EncodeCases.{refuses_mode, refuses_count, refuses_room, refuses_code, encodes, tones_written, refusal_told_lem}

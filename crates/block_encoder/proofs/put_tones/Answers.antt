@@ -1,11 +1,11 @@
 use mathlib.Core.Path.{◌≡◌, refl, ◌∙◌, ap}
 use mathlib.Core.List.{List}
-use Prim.Native.Nat.{ℕ, ◌-◌, ◌≤◌}
+use Prim.Native.Nat.{ℕ}
 use native.Mathlib.Omega.{arith}
-use lib.ListN.{length, length-set}
+use lib.ListN.{length-set}
 use lib.Pow.{pow_mono}
 use borrow.Author.Rules.{rules}
-use Rattle.lists.specs.Lists.{tab, num, over}
+use Rattle.lists.specs.Lists.{num}
 use Rattle.lists.proofs.Tables.{tab_at}
 use Rattle.lists.proofs.Fronts.{over_start, over_set}
 use Rattle.refusal.proofs.Limits.{mode_range}

@@ -1,4 +1,4 @@
-use Rattle.std.proofs.Common.{◌≡◌, ℕ, ◌+◌, ◌%◌, ◌<◌, not, ◌&&◌, eqb, ltb, leb, sym, ◌∙◌, inl, inr, arith, rules, le-ltb, lt-ltb}
+use Rattle.std.proofs.Common.{◌≡◌, ℕ, ◌+◌, ◌%◌, ◌<◌, not, ◌&&◌, eqb, ltb, leb, sym, ◌∙◌, inl, inr, arith, le-ltb, lt-ltb}
 use native.Mathlib.Decide.{ℕ_discrete, dec_lt}
 use Rattle.chain.specs.Chain.{missing_mark}
 use Rattle.tone_range.proofs.Ranges.{good_tone, bad_tone_lem}

@@ -1,11 +1,11 @@
-use mathlib.Core.Path.{◌≡◌, refl, sym, ◌∙◌, ap}
+use mathlib.Core.Path.{◌≡◌, refl, ◌∙◌, ap}
 use mathlib.Core.List.{List}
-use Prim.Native.Nat.{ℕ, ◌+◌, ◌-◌, ◌<◌, ◌≤◌}
+use Prim.Native.Nat.{ℕ, ◌+◌, ◌<◌}
 use native.Mathlib.Omega.{arith}
 use lib.ListN.{length, length-set}
 use borrow.Author.Rules.{rules}
 use Rattle.lists.specs.Sums.{total}
-use Rattle.lists.specs.Lists.{tab, num, over}
+use Rattle.lists.specs.Lists.{num}
 use Rattle.lists.proofs.Tables.{tab_at}
 use Rattle.lists.proofs.Fronts.{over_start, over_set, over_past, over_tab_whole}
 use Rattle.chain.specs.Chain.{bit, key_bit, value_at}

@@ -1,5 +1,5 @@
 use mathlib.Core.Path.{◌≡◌, refl, sym, ◌∙◌, ap}
-use Prim.Native.Nat.{ℕ, ◌-◌, ◌≤◌}
+use Prim.Native.Nat.{ℕ}
 use native.Mathlib.Omega.{arith}
 use lib.ListN.{length}
 use borrow.Author.Rules.{rules}
@@ -8,7 +8,6 @@ use Rattle.refusal.proofs.Limits.{mode_range}
 use Rattle.chain.specs.Chain.{symbol_at}
 use Rattle.chain.specs.Tables.{place_value}
 use Rattle.chain.proofs.Values.{mode_values}
-use Rattle.block_encoder.specs.Internal.{part_symbols}
 use Rattle.block_encoder.proofs.PartSymbols.{part_none, part_length, part_all}
 use Rattle.block_encoder.proofs.symbols.of_codes.Goals as goal
 

@@ -3,7 +3,6 @@ use native.Mathlib.Omega.{arith}
 use lib.IntN.{nat_abs}
 use mir.Syntax.{w16}
 use mir.Val.{to_z, of_z}
-use borrow.Author.Rules.{rules}
 use Rattle.lead_finder.proofs.Locals.{reads_16}
 use Rattle.lead_finder.proofs.keys.key.Goals as goal
 use Rattle.lead_finder.proofs.keys.key.Goals.{Start}

@@ -1,10 +1,6 @@
 use mathlib.Core.Path.{◌≡◌, refl}
-use mathlib.Core.Logic.{⊎_elim}
-use Prim.Native.Nat.{◌-◌, ◌≤◌}
 use native.Mathlib.Numerals.{add-one}
 use native.Mathlib.Omega.{arith}
-use lib.ListN.{get_or}
-use borrow.Author.Rules.{rules}
 use Rattle.lead_finder.specs.Internal.{largest}
 use Rattle.lead_finder.proofs.keys.largest.Goals as goal
 use Rattle.lead_finder.proofs.keys.largest.Goals.{then-most-keys, else-most-keys}
