@@ -1,4 +1,3 @@
-use borrow.Author.Rules.{rules}
 use mathlib.Core.Path.{ap, sym, ◌∙◌}
 use native.Mathlib.Omega.{arith}
 use Rattle.block_report.specs.Lines.{characters_text}
@@ -17,13 +16,13 @@ pub returns-in-Text : goal.returns-in-Text
 returns-in-Text c =
     let e = c.at_most_eight.ensures in
     let all = put_fitting
-          _
-          _
-          c.if-out-lt-ROOM.false
-          (put_as
-          _
-          (text_accepted _ _ _ c.in-Text.is ∙ ap (characters_text _ _) (sym e))
-          (c.put_characters.ensures.answer, c.put_characters.ensures.output)) in record { answer = all.0; output = all.1 }
+    _
+    _
+    c.if-out-lt-ROOM.false
+    (put_as
+    _
+    (text_accepted _ _ _ c.in-Text.is ∙ ap (characters_text _ _) (sym e))
+    (c.put_characters.ensures.answer, c.put_characters.ensures.output)) in record { answer = all.0; output = all.1 }
 
 pub returns-in-Refused : goal.returns-in-Refused
 returns-in-Refused c =
