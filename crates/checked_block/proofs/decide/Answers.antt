@@ -1,19 +1,16 @@
 use mathlib.Core.Path.{◌≡◌, refl, sym, ◌∙◌, ap}
-use Prim.Native.Nat.{ℕ, ◌≤◌, ◌-◌, ◌^◌}
+use Prim.Native.Nat.{ℕ, ◌^◌}
 use lib.Pow.{pow_mono}
 use native.Mathlib.Omega.{arith}
-use lib.Dec.{ltb}
-use lib.ListN.{length, length-set}
+use lib.ListN.{length-set}
 use borrow.Author.Rules.{rules}
 use borrow.Author.Tests.{lt-ltb, le-ltb}
-use Rattle.lists.specs.Lists.{tab, over}
-use Rattle.lists.specs.Places.{scan}
 use Rattle.lists.proofs.Fronts.{over_start, over_set}
 use Rattle.lists.proofs.Places.{scan_start, scan_hit, scan_miss, scan_end}
 use Rattle.refusal.proofs.Limits.{mode_range, mode_tones}
 use Rattle.chain.proofs.Values.{mode_values}
 use Rattle.block_decoder.specs.Decoding.{characters_of, lead_in, padded, heard_into}
-use Rattle.block_decoder.specs.Internal.{code_in, first_unclear_in}
+use Rattle.block_decoder.specs.Internal.{first_unclear_in}
 use Rattle.block_decoder.specs.declared.Decoded.TheVariants.{Refused}
 use Rattle.checked_block.specs.Checked.{tones_below}
 use Rattle.checked_block.specs.Internal.{weights_below}
@@ -68,7 +65,4 @@ pub returns : goal.returns
 returns c =
     let a = c.args in
     let done : c.loop-written.written ≡ a.mode = omega arith in
-    let clear : first_unclear_in a.mode a.least_lead c.decide-characters.result ≡ a.mode = sym c.loop-q.invariant.2 ∙ scan_end _ c.loop-q.q _ c.loop-q-test.false ∙ omega arith in let both = rw done (
-        sym (clear_told a.mode a.least_lead _ c.decide-characters.result (found (goal.at.returns c).After-decide-characters) clear),
-        text_put a.mode a.least_lead _ c.decide-characters.result (found (goal.at.returns c).After-decide-characters) a.codes.now c.loop-written.codes (rw done at c.loop-written.invariant.3),
-      ) in record { answer = both.0; output = both.1 }
+    let clear : first_unclear_in a.mode a.least_lead c.decide-characters.result ≡ a.mode = sym c.loop-q.invariant.2 ∙ scan_end _ c.loop-q.q _ c.loop-q-test.false ∙ omega arith in rw done record { answer = sym (clear_told a.mode a.least_lead _ c.decide-characters.result (found (goal.at.returns c).After-decide-characters) clear); output = text_put a.mode a.least_lead _ c.decide-characters.result (found (goal.at.returns c).After-decide-characters) a.codes.now c.loop-written.codes (rw done at c.loop-written.invariant.3) }

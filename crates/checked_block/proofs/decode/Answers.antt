@@ -1,8 +1,6 @@
 use mathlib.Core.Path.{◌≡◌, sym, ◌∙◌}
 use mathlib.Core.Bool.{true}
 use native.Mathlib.Omega.{arith}
-use borrow.Author.Rules.{rules}
-use borrow.Author.Tests.{not-true, not-false}
 use Rattle.refusal.specs.Checks.{is_mode, is_lead}
 use Rattle.weight_range.proofs.Ranges.{has_throughout}
 use Rattle.block_decoder.proofs.DecodeCases.{refuses_mode, refuses_lead, refuses_count, refuses_room}
@@ -29,12 +27,12 @@ returns-then-not-is_lead c =
 pub returns-then-tones-ne64 : goal.returns-then-tones-ne64
 returns-then-tones-ne64 c =
     let both = refusal_told_lem _ _ _ _ 7 0 c.at-then-tones-ne64.ensures
-          (refuses_count _ _ _ _ _ _ (mode_known (goal.at.returns-then-tones-ne64 c).Else-not-is_mode) (lead_known (goal.at.returns-then-tones-ne64 c).Else-not-is_lead) (λ e. c.if-tones-ne64.true (sym (below_count _ _) ∙ e))) in record { answer = both.0; output = both.1 }
+    (refuses_count _ _ _ _ _ _ (mode_known (goal.at.returns-then-tones-ne64 c).Else-not-is_mode) (lead_known (goal.at.returns-then-tones-ne64 c).Else-not-is_lead) (λ e. c.if-tones-ne64.true (sym (below_count _ _) ∙ e))) in record { answer = both.0; output = both.1 }
 
 pub returns-then-codes-mode : goal.returns-then-codes-mode
 returns-then-codes-mode c =
     let both = refusal_told_lem _ _ _ _ 9 0 c.at-then-codes-mode.ensures
-          (refuses_room _ _ _ _ _ _ (mode_known (goal.at.returns-then-codes-mode c).Else-not-is_mode) (lead_known (goal.at.returns-then-codes-mode c).Else-not-is_lead) (below_count _ _ ∙ c.if-tones-ne64.false) (has_throughout 1 1 (omega arith)).count c.if-codes-mode.true) in record { answer = both.0; output = both.1 }
+    (refuses_room _ _ _ _ _ _ (mode_known (goal.at.returns-then-codes-mode c).Else-not-is_mode) (lead_known (goal.at.returns-then-codes-mode c).Else-not-is_lead) (below_count _ _ ∙ c.if-tones-ne64.false) (has_throughout 1 1 (omega arith)).count c.if-codes-mode.true) in record { answer = both.0; output = both.1 }
 
 pub decide-requires : goal.decide-requires
 decide-requires c =
