@@ -1,5 +1,4 @@
 use mathlib.Core.Path.{◌≡◌, ◌∙◌}
-use borrow.Author.Rules.{rules}
 use Rattle.walsh.specs.Internal.{Within}
 use Rattle.walsh.proofs.Locals.{each_within}
 use Rattle.walsh.proofs.Sizes.{upto, two_within, steps, six_steps}

@@ -1,10 +1,8 @@
 use mathlib.Core.Path.{◌≡◌, refl}
-use Prim.Native.Nat.{◌-◌, ◌≤◌}
 use native.Mathlib.Omega.{arith}
-use borrow.Author.Rules.{rules}
 use Rattle.lists.specs.Lists.{at}
 use Rattle.lists.specs.Sums.{total}
-use Rattle.walsh.specs.Energy.{square, energy}
+use Rattle.walsh.specs.Energy.{energy}
 use Rattle.walsh.proofs.Energies.{Next, next}
 use Rattle.walsh.proofs.sum_of_squares.Goals as goal
 

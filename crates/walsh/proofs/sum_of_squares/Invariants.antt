@@ -1,11 +1,8 @@
-use mathlib.Core.Path.{◌≡◌, refl}
+use mathlib.Core.Path.{◌≡◌}
 use Prim.Native.Nat.{◌-◌, ◌≤◌}
-use native.Mathlib.Omega.{arith}
-use borrow.Author.Rules.{rules}
 use Rattle.lists.specs.Lists.{at}
 use Rattle.lists.specs.Sums.{total}
-use Rattle.walsh.specs.Energy.{square, energy}
-use Rattle.walsh.proofs.Energies.{Next, next}
+use Rattle.walsh.specs.Energy.{square}
 use Rattle.walsh.proofs.sum_of_squares.Given as goal
 
 abbrev pub invariant-loop-word : goal.invariant-loop-word

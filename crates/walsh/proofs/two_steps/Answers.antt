@@ -1,11 +1,10 @@
 use mathlib.Core.Path.{◌≡◌, ◌∙◌}
-use Prim.Native.Nat.{◌+◌, ◌*◌, ◌-◌, ◌<◌, ◌≤◌}
+use Prim.Native.Nat.{◌+◌, ◌*◌, ◌<◌}
 use native.Mathlib.Omega.{arith}
-use borrow.Author.Rules.{rules}
 use lib.Dec.{lit≤}
 use lib.IntN.{pos}
 use lib.ListN.{replicate}
-use Rattle.lists.specs.Lists.{tab, at, over}
+use Rattle.lists.specs.Lists.{at}
 use Rattle.lists.proofs.Fronts.{over_start, over_tab_whole}
 use Rattle.walsh.specs.Transform.{butterfly}
 use Rattle.walsh.specs.Internal.{step_of}

@@ -1,11 +1,8 @@
-use mathlib.Core.Path.{◌≡◌, sym, ◌∙◌}
-use Prim.Native.Nat.{◌≤◌, ◌-◌}
-use lib.ListN.{length}
+use mathlib.Core.Path.{sym, ◌∙◌}
 use borrow.Author.Rules.{rules}
 use borrow.Author.Tests.{lt-ltb, le-ltb, not-true}
-use Rattle.lists.specs.Places.{scan}
 use Rattle.lists.proofs.Places.{scan_start, scan_hit, scan_miss, scan_end, none_found}
-use Rattle.weight_range.specs.Range.{bad_weight, first_bad_weight}
+use Rattle.weight_range.specs.Range.{first_bad_weight}
 use Rattle.weight_range.proofs.first_bad_weight.Goals as goal
 
 pub returns-then-not-has_bad_weight : goal.returns-then-not-has_bad_weight

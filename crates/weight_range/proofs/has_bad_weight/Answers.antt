@@ -1,10 +1,8 @@
 use mathlib.Core.Path.{◌≡◌, refl}
-use Prim.Native.Nat.{◌≤◌, ◌-◌}
 use native.Mathlib.Omega.{arith}
-use lib.Dec.{ltb}
 use borrow.Author.Rules.{rules}
 use lib.ListN.{length}
-use Rattle.lists.specs.Places.{scan, first}
+use Rattle.lists.specs.Places.{scan}
 use Rattle.lists.proofs.Places.{any_more}
 use Rattle.weight_range.specs.Range.{bad_weight, first_bad_weight}
 use Rattle.weight_range.proofs.has_bad_weight.Goals as goal

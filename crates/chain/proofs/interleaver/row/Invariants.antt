@@ -1,13 +1,8 @@
-use mathlib.Core.Path.{◌≡◌, refl, ◌∙◌}
+use mathlib.Core.Path.{◌≡◌}
 use Prim.Native.Nat.{◌-◌, ◌≤◌}
-use native.Mathlib.Omega.{arith}
-use lib.Dec.{lit≤}
 use lib.ListN.{replicate}
-use borrow.Author.Rules.{rules}
 use Rattle.lists.specs.Lists.{tab, over}
-use Rattle.lists.proofs.Fronts.{over_start, over_set, over_tab_whole}
 use Rattle.chain.specs.Tables.{place_value}
-use Rattle.chain.proofs.Values.{row_value, row_value_lem}
 use Rattle.chain.proofs.interleaver.row.Given as goal
 
 abbrev pub invariant-loop-i : goal.invariant-loop-i

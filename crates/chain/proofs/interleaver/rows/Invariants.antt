@@ -1,14 +1,8 @@
-use mathlib.Core.Path.{◌≡◌, refl, sym, ◌∙◌, ap}
+use mathlib.Core.Path.{◌≡◌}
 use Prim.Native.Nat.{◌+◌, ◌-◌, ◌<◌, ◌≤◌, ◌%◌}
-use native.Mathlib.Nat.{zero-mod, add-mod_right}
-use native.Mathlib.Numerals.{add-one}
-use native.Mathlib.Omega.{arith}
 use lib.ListN.{length, take}
-use lib.Seq.{paste, paste-zero, paste-suc, length-paste, take-take}
-use borrow.Author.Rules.{rules}
-use Rattle.lists.specs.Lists.{tab}
+use lib.Seq.{paste}
 use Rattle.chain.specs.Internal.{again}
-use Rattle.chain.proofs.Rows.{again_written, again_cut}
 use Rattle.chain.proofs.interleaver.rows.Given as goal
 
 abbrev pub invariant-loop-j : goal.invariant-loop-j

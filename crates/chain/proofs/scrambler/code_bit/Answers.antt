@@ -1,7 +1,6 @@
 use mathlib.Core.Path.{ap}
 use mathlib.Core.Bool.{not}
 use borrow.Author.Tests.{lt-ltb, le-ltb}
-use borrow.Author.Rules.{rules}
 use Rattle.chain.specs.Chain.{code_bit}
 use Rattle.chain.proofs.scrambler.code_bit.Goals as goal
 

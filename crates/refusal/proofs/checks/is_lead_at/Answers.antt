@@ -1,6 +1,5 @@
 use mathlib.Core.Path.{sym, ◌∙◌}
 use Prim.Native.Nat.{◌*◌}
-use borrow.Author.Rules.{rules}
 use borrow.Author.Tests.{lt-leb}
 use Rattle.refusal.proofs.Limits.{within_rest, below_low}
 use Rattle.refusal.proofs.checks.is_lead_at.Goals as goal

@@ -3,7 +3,6 @@ use Prim.Native.Nat.{ℕ, ◌+◌, ◌-◌, ◌/◌, ◌%◌, ◌^◌}
 use native.Mathlib.Nat.{mul-div_cancel}
 use native.Mathlib.Omega.{arith}
 use lib.Pow.{pow-add, pow_pos}
-use borrow.Author.Rules.{rules}
 use Rattle.refusal.proofs.checks.tone_count.Goals as goal
 
 pub returns : goal.returns
