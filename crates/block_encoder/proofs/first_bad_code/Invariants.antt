@@ -1,12 +1,7 @@
-use mathlib.Core.Path.{◌≡◌, sym, ◌∙◌}
+use mathlib.Core.Path.{◌≡◌}
 use Prim.Native.Nat.{◌-◌, ◌≤◌}
-use native.Mathlib.Omega.{arith}
 use lib.ListN.{length}
-use borrow.Author.Rules.{rules}
-use borrow.Author.Tests.{le-leb, lt-leb}
-use Rattle.lists.specs.Lists.{num}
 use Rattle.lists.specs.Places.{scan}
-use Rattle.lists.proofs.Places.{scan_start, scan_hit, scan_miss, scan_end}
 use Rattle.block_encoder.specs.Encoding.{bad_code, first_bad_code}
 use Rattle.block_encoder.proofs.first_bad_code.Given as goal
 

@@ -1,23 +1,24 @@
 use mathlib.Core.Path.{◌≡◌, refl, ◌∙◌, ap}
 use mathlib.Core.List.{List}
-use Prim.Native.Nat.{ℕ, ◌-◌, ◌≤◌}
+use Prim.Native.Nat.{ℕ}
 use native.Mathlib.Omega.{arith}
-use lib.ListN.{length, length-set}
+use lib.ListN.{length-set}
 use lib.Pow.{pow_mono}
 use borrow.Author.Rules.{rules}
-use Rattle.lists.specs.Lists.{tab, num, over}
+use Rattle.lists.specs.Lists.{num}
 use Rattle.lists.proofs.Tables.{tab_at}
 use Rattle.lists.proofs.Fronts.{over_start, over_set}
 use Rattle.refusal.proofs.Limits.{mode_range}
 use Rattle.chain.specs.Chain.{symbol_at, gray, tone_at, tones_of}
 use Rattle.chain.proofs.Interleaving.{interleaver}
 use Rattle.block_encoder.proofs.put_tones.Goals as goal
+use Rattle.block_encoder.proofs.put_tones.Goals.{In-loop-t}
 
 pub loop-t-init : goal.loop-t-init
 loop-t-init c = (search rules, refl, over_start _ _)
 
 -- the symbol at t
-symbol_at_lem : (c : goal.In-loop-t) →
+symbol_at_lem : (c : In-loop-t) →
     let a = c.args in
     num c.of_codes-symbols.result c.loop-t.t ≡ symbol_at a.mode a.codes.now c.loop-t.t
 symbol_at_lem c =
@@ -28,7 +29,7 @@ pub overflow_cast-symbols : goal.overflow_cast-symbols
 overflow_cast-symbols c =
     let s = c.before.before.before.before.before in
     let mode = s.args.mode in
-    omega (arith, symbol_at_lem c, interleaver.below mode s.args.codes.now c.loop-t.t, pow_mono {i = mode} {j = 8} (mode_range mode s.requires.0).1)
+    omega (arith, symbol_at_lem (goal.at.overflow_cast-symbols c).In-loop-t, interleaver.below mode s.args.codes.now c.loop-t.t, pow_mono {i = mode} {j = 8} (mode_range mode s.requires.0).1)
 
 pub tone_of-requires : goal.tone_of-requires
 tone_of-requires c = tt
@@ -41,7 +42,7 @@ loop-t-preserved c =
       search rules,
       length-set l.tones l.t _ ∙ l.invariant.1,
       over_set 0 (tone_at s.args.mode s.args.codes.now) l.t s.args.tones.now l.tones _ (omega arith) l.invariant.2
-          (c.tone_of.ensures ∙ ap gray (symbol_at_lem c.before)),
+          (c.tone_of.ensures ∙ ap gray (symbol_at_lem (goal.at.loop-t-preserved c).In-loop-t)),
     )
 
 pub returns : goal.returns

@@ -1,11 +1,11 @@
-use mathlib.Core.Path.{◌≡◌, refl, sym, ◌∙◌, ap}
+use mathlib.Core.Path.{◌≡◌, refl, ◌∙◌, ap}
 use mathlib.Core.List.{List}
-use Prim.Native.Nat.{ℕ, ◌+◌, ◌-◌, ◌<◌, ◌≤◌}
+use Prim.Native.Nat.{ℕ, ◌+◌, ◌<◌}
 use native.Mathlib.Omega.{arith}
 use lib.ListN.{length, length-set}
 use borrow.Author.Rules.{rules}
 use Rattle.lists.specs.Sums.{total}
-use Rattle.lists.specs.Lists.{tab, num, over}
+use Rattle.lists.specs.Lists.{num}
 use Rattle.lists.proofs.Tables.{tab_at}
 use Rattle.lists.proofs.Fronts.{over_start, over_set, over_past, over_tab_whole}
 use Rattle.chain.specs.Chain.{bit, key_bit, value_at}
@@ -14,11 +14,12 @@ use Rattle.chain.proofs.Keys.{keys_bit}
 use Rattle.block_encoder.specs.Internal.{part_symbols}
 use Rattle.block_encoder.proofs.PartSymbols.{part_at, part_length, part_more, cond_difference, part_room}
 use Rattle.block_encoder.proofs.symbols.add_character.Goals as goal
+use Rattle.block_encoder.proofs.symbols.add_character.Goals.{In-loop-t}
 
 pub loop-t-init : goal.loop-t-init
 loop-t-init c =
     let s = c.before.before.before in
-    (search rules, ap length s.requires.1.1 ∙ part_length _ _, s.requires.1.1 ∙ over_start _ _)
+    (search rules, ap length s.requires.sums ∙ part_length _ _, s.requires.sums ∙ over_start _ _)
 
 pub bounds-symbols-t : goal.bounds-symbols-t
 bounds-symbols-t c =
@@ -26,7 +27,7 @@ bounds-symbols-t c =
     omega (arith, l.invariant.1, c.loop-t-test.true)
 
 -- symbol t as far as the characters before q go, and the value of the next one's place
-sum_known : (c : goal.In-loop-t) →
+sum_known : (c : In-loop-t) →
     let l = c.loop-t in
     let a = c.args in
     num l.symbols l.t ≡ total a.q (value_at (length a.codes.now) a.codes.now l.t)
@@ -38,7 +39,7 @@ sum_known c =
     ∙ over_past _ 0 l.t _ l.t (omega arith)
     ∙ part_at a.codes.now a.q l.t here
 
-value_known : (c : goal.In-loop-t) →
+value_known : (c : In-loop-t) →
     let l = c.loop-t in
     let a = c.args in
     num a.values.now (a.q + l.t) ≡ place_value (length a.codes.now) (a.q + l.t)
@@ -46,14 +47,14 @@ value_known c =
     let l = c.loop-t in
     let s = c.before.before.before.before.before in
     let a = s.args in
-    ap (λ (x : List ℕ). num x (a.q + l.t)) s.requires.1.0.1
-    ∙ tab_at (place_value (length a.codes.now)) 0 72 (a.q + l.t) (omega (arith, s.requires.0.0, s.requires.0.1))
+    ap (λ (x : List ℕ). num x (a.q + l.t)) s.requires.tables.1
+    ∙ tab_at (place_value (length a.codes.now)) 0 72 (a.q + l.t) (omega (arith, s.requires.codes.0, s.requires.codes.1))
 
 pub added-requires : goal.added-requires
 added-requires c =
     let turn = c.before.before.before.before in
     let s = turn.before.before.before.before.before in
-    let room = part_room s.args.codes.now turn.loop-t.t s.args.q _ _ s.requires.0.0 s.requires.0.1 (sum_known turn) (value_known turn) in
+    let room = part_room s.args.codes.now turn.loop-t.t s.args.q _ _ s.requires.codes.0 s.requires.codes.1 (sum_known (goal.at.added-requires c).In-loop-t) (value_known (goal.at.added-requires c).In-loop-t) in
     rw cond_difference (omega (arith, room))
 
 pub bounds-symbols-t-in-loop-t : goal.bounds-symbols-t-in-loop-t
@@ -69,13 +70,13 @@ loop-t-preserved c =
     let a = s.args in
     let here : l.t < 64 = turn.loop-t-test.true in
     let key : bit (num a.keys.now l.t) a.q ≡ key_bit a.q l.t =
-    ap (λ (x : List ℕ). bit (num x l.t) a.q) s.requires.1.0.0
+    ap (λ (x : List ℕ). bit (num x l.t) a.q) s.requires.tables.0
     ∙ ap (λ (k : ℕ). bit k a.q) (tab_at keys_at 0 64 l.t here)
-    ∙ keys_bit l.t a.q (omega (arith, s.requires.0.0, s.requires.0.1)) in (
+    ∙ keys_bit l.t a.q (omega (arith, s.requires.codes.0, s.requires.codes.1)) in (
       search rules,
       length-set l.symbols l.t _ ∙ l.invariant.1,
       over_set 0 _ l.t (part_symbols a.codes.now a.q) l.symbols _ (rw (part_length a.codes.now a.q) here) l.invariant.2
-          (part_more a.codes.now l.t a.q _ _ _ _ _ _ (sum_known turn) c.code_bit.ensures key refl (value_known turn) c.added.ensures),
+          (part_more a.codes.now l.t a.q _ _ _ _ _ _ (sum_known (goal.at.loop-t-preserved c).In-loop-t) c.code_bit.ensures key refl (value_known (goal.at.loop-t-preserved c).In-loop-t) c.added.ensures),
     )
 
 pub returns : goal.returns

@@ -1,5 +1,5 @@
 use mathlib.Core.Path.{◌≡◌, refl, sym, ◌∙◌, ap}
-use Prim.Native.Nat.{ℕ, ◌-◌, ◌≤◌}
+use Prim.Native.Nat.{ℕ}
 use native.Mathlib.Omega.{arith}
 use lib.ListN.{length}
 use borrow.Author.Rules.{rules}
@@ -8,7 +8,6 @@ use Rattle.refusal.proofs.Limits.{mode_range}
 use Rattle.chain.specs.Chain.{symbol_at}
 use Rattle.chain.specs.Tables.{place_value}
 use Rattle.chain.proofs.Values.{mode_values}
-use Rattle.block_encoder.specs.Internal.{part_symbols}
 use Rattle.block_encoder.proofs.PartSymbols.{part_none, part_length, part_all}
 use Rattle.block_encoder.proofs.symbols.of_codes.Goals as goal
 
@@ -19,7 +18,7 @@ pub add_character-requires : goal.add_character-requires
 add_character-requires c =
     let l = c.loop-q in
     let s = c.before.before.before.before.before.before.before.before in
-    let values = c.values-values.ensures ∙ mode_values s.args.mode s.requires.0 ∙ ap (λ (b : ℕ). tab (place_value b) 72) (sym s.requires.1) in record { codes = (((omega arith, omega (arith, s.requires.1, (mode_range s.args.mode s.requires.0).1)), ((c.keys-keys.ensures, values), l.invariant.2))).0; tables = (((omega arith, omega (arith, s.requires.1, (mode_range s.args.mode s.requires.0).1)), ((c.keys-keys.ensures, values), l.invariant.2))).1; sums = (((omega arith, omega (arith, s.requires.1, (mode_range s.args.mode s.requires.0).1)), ((c.keys-keys.ensures, values), l.invariant.2))).2 }
+    let values = c.values-values.ensures ∙ mode_values s.args.mode s.requires.0 ∙ ap (λ (b : ℕ). tab (place_value b) 72) (sym s.requires.1) in record { codes = (omega arith, omega (arith, s.requires.1, (mode_range s.args.mode s.requires.0).1)); tables = (c.keys-keys.ensures, values); sums = l.invariant.2 }
 
 pub loop-q-preserved : goal.loop-q-preserved
 loop-q-preserved c =
