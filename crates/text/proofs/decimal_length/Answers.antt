@@ -1,9 +1,7 @@
 -- Before each turn the digits counted, but for the first, and those of what is left are the number's.
-use mathlib.Core.Path.{◌≡◌, ap}
-use Prim.Native.Nat.{◌+◌}
+use mathlib.Core.Path.{ap}
 use native.Mathlib.Omega.{arith}
 use lib.ListN.{length}
-use Rattle.text.specs.Decimal.{decimal}
 use Rattle.text.proofs.Decimals.{decimal_small, decimal_more_length, decimal_short}
 use Rattle.text.proofs.decimal_length.Goals as goal
 

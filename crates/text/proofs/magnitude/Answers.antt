@@ -1,7 +1,6 @@
 use mathlib.Core.Path.{ap}
 use lib.IntN.{nat_abs}
 use mir.Facts.{to_z-of_z, Fits-nat_abs}
-use borrow.Author.Rules.{rules}
 use Rattle.text.proofs.Signs.{widened_fits, difference_fits, difference_reads, non_negative}
 use Rattle.text.proofs.magnitude.Goals as goal
 

@@ -1,9 +1,9 @@
 -- Before each turn the text is as it was before place `from`, and what stands from there on follows the digits of what is left.
-use mathlib.Core.Path.{◌≡◌, refl, ◌∙◌, ap}
+use mathlib.Core.Path.{refl, ◌∙◌, ap}
 use mathlib.Core.List.{◌++◌}
 use Prim.Native.Nat.{◌+◌, ◌-◌, ◌%◌, ◌<◌, ◌≤◌}
 use native.Mathlib.Omega.{arith}
-use lib.ListN.{length, take, drop, length-append, length-drop, length-set}
+use lib.ListN.{length, drop, length-append, length-drop, length-set}
 use Rattle.text.specs.Decimal.{decimal}
 use Rattle.text.proofs.Decimals.{decimal_small, decimal_more_length, decimal_short}
 use Rattle.text.proofs.Endings.{front_kept, digit_more, first_place, ended}
@@ -38,4 +38,4 @@ returns c =
     let after = decimal a.n ++ rest in
     let some : 0 < l.from = omega (arith, ap length (decimal_small l.left (omega arith))) in
     let within : l.from ≤ length l.text = omega arith in
-    let begin = first_place l.text l.from some within after l.left l.invariant.4 (omega arith) in record { answer = omega (arith, begin, length-append (decimal a.n) rest, length-drop a.place a.text.now); output = (ended l.text l.from some within after l.left l.invariant.4 (omega arith) a.text.now l.invariant.3, ) }
+    let begin = first_place l.text l.from some within after l.left l.invariant.4 (omega arith) in record { answer = omega (arith, begin, length-append (decimal a.n) rest, length-drop a.place a.text.now); output = ended l.text l.from some within after l.left l.invariant.4 (omega arith) a.text.now l.invariant.3 }

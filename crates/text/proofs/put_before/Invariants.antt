@@ -1,12 +1,9 @@
 -- Before each turn the text is as it was before place `from`, and what stands from there on follows the digits of what is left.
-use mathlib.Core.Path.{◌≡◌, refl, ◌∙◌, ap}
+use mathlib.Core.Path.{◌≡◌}
 use mathlib.Core.List.{◌++◌}
-use Prim.Native.Nat.{◌+◌, ◌-◌, ◌%◌, ◌<◌, ◌≤◌}
-use native.Mathlib.Omega.{arith}
-use lib.ListN.{length, take, drop, length-append, length-drop, length-set}
+use Prim.Native.Nat.{◌≤◌}
+use lib.ListN.{length, take, drop}
 use Rattle.text.specs.Decimal.{decimal}
-use Rattle.text.proofs.Decimals.{decimal_small, decimal_more_length, decimal_short}
-use Rattle.text.proofs.Endings.{front_kept, digit_more, first_place, ended}
 use Rattle.text.proofs.put_before.Given as goal
 
 abbrev pub invariant-loop-left : goal.invariant-loop-left

@@ -1,5 +1,4 @@
 use native.Mathlib.Omega.{arith}
-use borrow.Author.Rules.{rules}
 use lib.ListN.{replicate}
 use Rattle.text.proofs.Parts.{field_part}
 use Rattle.text.proofs.Writing.{put_as}
@@ -7,13 +6,8 @@ use Rattle.text.proofs.put_field.Goals as goal
 
 pub returns : goal.returns
 returns c =
-    let put = c.before.before in
-    let made = put.before.before.before.before.before in
-    let a = made.before.args in
-    let before = made.put-before in
-    let text = before.new.1.1.0 in record {
-      answer = (put_as a.out.now put.put_text.ensures
-          (field_part (replicate 21 a.end) text a.n before.result 20 before.ensures.0 (omega arith) a.end before.ensures.1)).0;
-      output = (put_as a.out.now put.put_text.ensures
-          (field_part (replicate 21 a.end) text a.n before.result 20 before.ensures.0 (omega arith) a.end before.ensures.1)).1;
-    }
+    let a = c.args in
+    let before = c.put_before-from in
+    let put = c.put_text.ensures in
+    let part = field_part (replicate 21 a.end) before.new.text a.n before.result 20 before.ensures.answer (omega arith) a.end before.ensures.output in
+    let same = put_as a.out.now (put.answer, put.output) part in record { answer = same.0; output = same.1 }

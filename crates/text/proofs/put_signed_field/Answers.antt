@@ -3,7 +3,6 @@ use mathlib.Core.Path.{◌≡◌, ◌∙◌, ap}
 use mathlib.Core.List.{List, [], ◌∷◌, ◌++◌}
 use Prim.Native.Nat.{ℕ, ◌+◌, ◌-◌, ◌<◌}
 use native.Mathlib.Omega.{arith}
-use borrow.Author.Rules.{rules}
 use lib.IntN.{ℤ, pos, nat_abs}
 use lib.ListN.{length, take, drop, set, replicate}
 use lib.Signed.{lt_z, nat_abs-le}
@@ -18,41 +17,33 @@ use Rattle.text.proofs.Signs.{sign_short, minus_size}
 use Rattle.text.proofs.Writing.{put_as}
 use Rattle.text.proofs.put_signed_field.Goals as goal
 
-module _ (c : goal.After-put_before) where
-  abbrev z : ℤ
-  z = c.args.n
+module _ (z : ℤ) (end r m : ℕ) (text : List ℕ) (fit : SFits w32 z) (size : m ≡ nat_abs (to_z w32 (of_z w32 z))) where
+  same : m ≡ nat_abs z
+  same = size ∙ ap nat_abs (to_z-of_z fit)
 
-  abbrev end : ℕ
-  end = c.before.before.before.before.args.end
+  module _ (begins : r + length (decimal m) ≡ 21) where
+    sum : r + length (decimal (nat_abs z)) ≡ 21
+    sum = rw same at begins
 
-  abbrev r : ℕ
-  r = c.put-before.result
+    some : 0 < r
+    some = omega (arith, sum, decimal_short_32 (nat_abs z) (omega (arith, nat_abs-le z fit.sfits)))
 
-  abbrev text : List ℕ
-  text = c.put-before.new.1.1.0
+    abbrev from : ℕ
+    from = r - bool_byte (lt_z (to_z w32 (of_z w32 z)) (pos 0))
 
-  fit : SFits w32 z
-  fit = c.before.before.before.before.ranges.n
-
-  made : (r + length (decimal (nat_abs z)) ≡ 21) × (text ≡ take r (set (replicate 22 hyphen) 21 end) ++ (decimal (nat_abs z) ++ (end ∷ [])))
-  made = rw (c.before.before.magnitude.ensures ∙ ap nat_abs (to_z-of_z fit)) at c.put-before.ensures
-
-  some : 0 < r
-  some = omega (arith, made.0, decimal_short_32 (nat_abs z) (omega (arith, nat_abs-le z fit.sfits)))
-
-  abbrev from : ℕ
-  from = r - bool_byte (lt_z (to_z w32 (of_z w32 z)) (pos 0))
-
-  part : take (22 - from) (drop from text) ≡ signed_field z end
-  part = rw (minus_size z fit) (signed_field_part z end 21 r made.0 some text made.1)
+    part : text ≡ take r (set (replicate 22 hyphen) 21 end) ++ (decimal m ++ (end ∷ [])) → take (22 - from) (drop from text) ≡ signed_field z end
+    part put = rw (minus_size z fit) (signed_field_part z end 21 r sum some text (rw same at put))
 
 pub overflow_sub-from : goal.overflow_sub-from
 overflow_sub-from c =
-    let made = c.before in
-    omega (arith, some made, minus_size (z made) (fit made), sign_short (z made))
+    let a = c.args in
+    let before = c.put_before in
+    omega (arith, some a.n a.end before.result c.magnitude.result before.new.text c.ranges.n c.magnitude.ensures before.ensures.answer, minus_size a.n c.ranges.n, sign_short a.n)
 
 pub returns : goal.returns
 returns c =
-    let put = c.before.before in
-    let made = put.before.before.before.before.before in
-    let a = made.before.args in record { answer = (put_as a.out.now put.put_text.ensures (part made)).0; output = (put_as a.out.now put.put_text.ensures (part made)).1 }
+    let a = c.args in
+    let before = c.put_before in
+    let put = c.put_text.ensures in
+    let shown = part a.n a.end before.result c.magnitude.result before.new.text c.ranges.n c.magnitude.ensures before.ensures.answer before.ensures.output in
+    let same = put_as a.out.now (put.answer, put.output) shown in record { answer = same.0; output = same.1 }

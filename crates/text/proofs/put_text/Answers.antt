@@ -1,7 +1,7 @@
 -- Before each turn the first i bytes of the text are written.
 use mathlib.Core.Path.{◌≡◌, refl, ap, ◌∙◌}
 use mathlib.Core.List.{List}
-use Prim.Native.Nat.{ℕ, ◌-◌, ◌≤◌}
+use Prim.Native.Nat.{ℕ}
 use native.Mathlib.Omega.{arith}
 use lib.ListN.{length, length-set}
 use Rattle.lists.specs.Lists.{tab, num, over}
@@ -13,7 +13,7 @@ use Rattle.text.proofs.put_text.Goals as goal
 pub returns-then-out-text : goal.returns-then-out-text
 returns-then-out-text c =
     let a = c.args in
-    let none = written_none a.text.now (length a.out.now) (omega arith) in record { answer = (rw none (refl, over_none a.out.now)).0; output = (rw none (refl, over_none a.out.now)).1 }
+    let none = written_none a.text.now (length a.out.now) (omega arith) in record { answer = rw none refl; output = rw none (over_none a.out.now) }
 
 pub loop-i-init : goal.loop-i-init
 loop-i-init c = (omega arith, refl, over_start _ _)
@@ -33,4 +33,4 @@ returns c =
     let a = c.args in
     let text = a.text.now in
     let all : l.i ≡ length text = omega arith in
-    let same : tab (num text) l.i ≡ text = rw all (tab_self 0 text) in record { answer = (rw (written_whole text (length a.out.now) (omega arith)) (all, l.invariant.2 ∙ ap (λ (x : List ℕ). over x a.out.now) same)).0; output = (rw (written_whole text (length a.out.now) (omega arith)) (all, l.invariant.2 ∙ ap (λ (x : List ℕ). over x a.out.now) same)).1 }
+    let same : tab (num text) l.i ≡ text = rw all (tab_self 0 text) in record { answer = rw (written_whole text (length a.out.now) (omega arith)) all; output = rw (written_whole text (length a.out.now) (omega arith)) (l.invariant.2 ∙ ap (λ (x : List ℕ). over x a.out.now) same) }

@@ -1,13 +1,8 @@
 -- Before each turn the first i bytes of the text are written.
-use mathlib.Core.Path.{◌≡◌, refl, ap, ◌∙◌}
-use mathlib.Core.List.{List}
-use Prim.Native.Nat.{ℕ, ◌-◌, ◌≤◌}
-use native.Mathlib.Omega.{arith}
-use lib.ListN.{length, length-set}
+use mathlib.Core.Path.{◌≡◌}
+use Prim.Native.Nat.{◌-◌, ◌≤◌}
+use lib.ListN.{length}
 use Rattle.lists.specs.Lists.{tab, num, over}
-use Rattle.lists.proofs.Tables.{tab_self}
-use Rattle.lists.proofs.Fronts.{over_start, over_set, over_none}
-use Rattle.text.proofs.Writing.{written_whole, written_none}
 use Rattle.text.proofs.put_text.Given as goal
 
 abbrev pub invariant-loop-i : goal.invariant-loop-i

@@ -51,4 +51,4 @@ loop-q-preserved c =
 pub returns : goal.returns
 returns c =
     let l = c.loop-q in
-    let e : l.q ≡ c.args.count = omega arith in record { answer = (rw e at l.invariant.2).0; output = (rw e at l.invariant.2).1 }
+    let e : l.q ≡ c.args.count = omega arith in record { answer = rw e at l.invariant.2.0; output = rw e at l.invariant.2.1 }
