@@ -1,11 +1,8 @@
 use mathlib.Core.Path.{◌≡◌, sym, ◌∙◌}
 use mathlib.Core.Bool.{true}
-use Prim.Native.Nat.{◌-◌, ◌≤◌}
 use native.Mathlib.Omega.{arith}
-use lib.ListN.{replicate}
 use borrow.Author.Rules.{rules}
-use borrow.Author.Tests.{not-true, not-false}
-use Rattle.lists.specs.Lists.{tab, over}
+use Rattle.lists.specs.Lists.{over}
 use Rattle.lists.proofs.Fronts.{over_start, over_set}
 use Rattle.refusal.specs.Checks.{is_mode}
 use Rattle.refusal.proofs.Limits.{mode_range}
@@ -13,16 +10,17 @@ use Rattle.walsh.proofs.Energies.{counts_energy}
 use Rattle.characters.specs.Symbols.{symbol_count, symbol_energy, symbol_energies}
 use Rattle.characters.proofs.TableSigns.{table_count}
 use Rattle.characters.proofs.energies.Goals as goal
+use Rattle.characters.proofs.energies.Goals.{Else-not-is_mode}
 
 pub returns-then-not-is_mode : goal.returns-then-not-is_mode
 unfolding symbol_energies over
 returns-then-not-is_mode c = rw (sym c.is_mode.ensures ∙ c.if-not-is_mode.true)
 
-mode_known : (c : goal.Else-not-is_mode) → is_mode c.args.mode ≡ true
+mode_known : (c : Else-not-is_mode) → is_mode c.args.mode ≡ true
 mode_known c = sym c.is_mode.ensures ∙ c.if-not-is_mode.false
 
 pub loop-q-init : goal.loop-q-init
-loop-q-init c = ((mode_range _ (mode_known c.before)).1, search rules, over_start _ _)
+loop-q-init c = ((mode_range _ (mode_known (goal.at.loop-q-init c).Else-not-is_mode)).1, search rules, over_start _ _)
 
 pub loop-q-preserved : goal.loop-q-preserved
 unfolding symbol_energy
@@ -41,4 +39,4 @@ unfolding symbol_energies
 returns c =
     let l = c.before in
     let done : l.loop-q.q ≡ l.args.mode = omega arith in
-    rw (mode_known l.before.before) (rw done at l.loop-q.invariant.2)
+    rw (mode_known (goal.at.returns c).Else-not-is_mode) (rw done at l.loop-q.invariant.2)

@@ -20,6 +20,7 @@ use Rattle.checked_block.specs.Internal.{weights_below}
 use Rattle.checked_block.proofs.CheckedCounts.{symbols_none, same_found}
 use Rattle.checked_block.proofs.Decisions.{unclear_told, clear_told, text_put}
 use Rattle.checked_block.proofs.decide.Goals as goal
+use Rattle.checked_block.proofs.decide.Goals.{After-decide-characters}
 
 pub put_symbols-requires : goal.put_symbols-requires
 put_symbols-requires c = (c.requires.1, symbols_none _)
@@ -28,7 +29,7 @@ pub weights-weights-requires : goal.weights-weights-requires
 weights-weights-requires c = c.requires.1
 
 -- the decisions are those on the tones of the mode
-found : (d : goal.After-decide-characters) → let a = d.args in d.decide-characters.result ≡ padded (characters_of a.mode (tones_below (2 ^ a.mode) a.tones.now))
+found : (d : After-decide-characters) → let a = d.args in d.decide-characters.result ≡ padded (characters_of a.mode (tones_below (2 ^ a.mode) a.tones.now))
 found d =
     let v = d.before.before.before.before in
     let w = v.before in
@@ -52,7 +53,7 @@ returns-then-character-least_lead c =
     let d = l.before in
     let a = d.args in
     let inside = c.loop-q-test.true in
-    let here = sym l.loop-q.invariant.2 ∙ scan_hit _ l.loop-q.q _ inside (lt-ltb (lead_in d.decide-characters.result l.loop-q.q) a.least_lead c.if-character-least_lead.true) in record { answer = ap Refused c.unclear.ensures ∙ sym (unclear_told a.mode a.least_lead _ d.decide-characters.result (found d) l.loop-q.q inside here); output = refl }
+    let here = sym l.loop-q.invariant.2 ∙ scan_hit _ l.loop-q.q _ inside (lt-ltb (lead_in d.decide-characters.result l.loop-q.q) a.least_lead c.if-character-least_lead.true) in record { answer = ap Refused c.unclear.ensures ∙ sym (unclear_told a.mode a.least_lead _ d.decide-characters.result (found (goal.at.returns-then-character-least_lead c).After-decide-characters) l.loop-q.q inside here); output = refl }
 
 pub loop-q-preserved : goal.loop-q-preserved
 loop-q-preserved c =
@@ -79,11 +80,11 @@ returns c =
     let done : w.loop-written.written ≡ a.mode = omega arith in
     let clear : first_unclear_in a.mode a.least_lead d.decide-characters.result ≡ a.mode = sym l.loop-q.invariant.2 ∙ scan_end _ l.loop-q.q _ w.loop-q-test.false ∙ omega arith in record {
       answer = (rw done (
-        sym (clear_told a.mode a.least_lead _ d.decide-characters.result (found d) clear),
-        text_put a.mode a.least_lead _ d.decide-characters.result (found d) a.codes.now w.loop-written.codes (rw done at w.loop-written.invariant.3),
+        sym (clear_told a.mode a.least_lead _ d.decide-characters.result (found (goal.at.returns c).After-decide-characters) clear),
+        text_put a.mode a.least_lead _ d.decide-characters.result (found (goal.at.returns c).After-decide-characters) a.codes.now w.loop-written.codes (rw done at w.loop-written.invariant.3),
       )).0;
       output = (rw done (
-        sym (clear_told a.mode a.least_lead _ d.decide-characters.result (found d) clear),
-        text_put a.mode a.least_lead _ d.decide-characters.result (found d) a.codes.now w.loop-written.codes (rw done at w.loop-written.invariant.3),
+        sym (clear_told a.mode a.least_lead _ d.decide-characters.result (found (goal.at.returns c).After-decide-characters) clear),
+        text_put a.mode a.least_lead _ d.decide-characters.result (found (goal.at.returns c).After-decide-characters) a.codes.now w.loop-written.codes (rw done at w.loop-written.invariant.3),
       )).1;
     }

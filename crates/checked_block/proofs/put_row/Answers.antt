@@ -6,19 +6,20 @@ use borrow.Author.Rules.{rules}
 use Rattle.checked_block.specs.Internal.{symbols_to}
 use Rattle.checked_block.proofs.CheckedCounts.{symbols_length, put_symbol}
 use Rattle.checked_block.proofs.put_row.Goals as goal
+use Rattle.checked_block.proofs.put_row.Goals.{Start, At-loop-t}
 
 pub loop-t-init : goal.loop-t-init
 loop-t-init c = (search rules, search rules, c.requires.3)
 
 -- as many symbols as at the start
-length_first : (s : goal.Start) → length s.args.symbols.now ≡ 64
+length_first : (s : Start) → length s.args.symbols.now ≡ 64
 length_first s = rw s.requires.3 (symbols_length s.args.tones.now s.args.from (omega (arith, s.requires.1)))
 
-length_kept : (l : goal.At-loop-t) → length l.loop-t.symbols ≡ 64
+length_kept : (l : At-loop-t) → length l.loop-t.symbols ≡ 64
 length_kept l = rw l.loop-t.invariant.2 (symbols_length l.args.tones.now l.loop-t.t (omega (arith, l.loop-t.invariant.1, l.requires.1)))
 
 pub bounds-symbols-t : goal.bounds-symbols-t
-bounds-symbols-t c = omega (arith, length_kept c.before.before.before, c.requires.1)
+bounds-symbols-t c = omega (arith, length_kept (goal.at.bounds-symbols-t c).At-loop-t, c.requires.1)
 
 pub loop-t-preserved : goal.loop-t-preserved
 loop-t-preserved c =

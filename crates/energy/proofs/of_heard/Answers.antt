@@ -19,6 +19,7 @@ use Rattle.energy.specs.Energies.{refused}
 use Rattle.energy.proofs.EnergyCases.{Passed, refuses_mode, refuses_count, refuses_weights, refuses_tone, refuses_weight, sums_up}
 use Rattle.energy.proofs.Summed.{weights_heard, weights_few, same_summed}
 use Rattle.energy.proofs.of_heard.Goals as goal
+use Rattle.energy.proofs.of_heard.Goals.{Else-not-is_mode, Else-weights-ne64, After-check-range, Else-range-lt64, Else-bad_weight-lt64}
 
 pub returns-then-not-is_mode : goal.returns-then-not-is_mode
 returns-then-not-is_mode c =
@@ -26,36 +27,46 @@ returns-then-not-is_mode c =
     c.refused.ensures ∙ sym (refuses_mode _ _ _ _ (sym m.is_mode.ensures ∙ c.if-not-is_mode.true))
 
 -- the mode, once its check has passed
-mode_known : (c : goal.Else-not-is_mode) → is_mode c.args.mode ≡ true
+mode_known : (c : Else-not-is_mode) → is_mode c.args.mode ≡ true
 mode_known c = sym c.is_mode.ensures ∙ c.if-not-is_mode.false
 
 pub returns-then-tones-ne64 : goal.returns-then-tones-ne64
-returns-then-tones-ne64 c = c.refused-then-tones-ne64.ensures ∙ sym (refuses_count _ _ _ _ (mode_known c.before.before) c.if-tones-ne64.true)
+returns-then-tones-ne64 c = c.refused-then-tones-ne64.ensures ∙ sym (refuses_count _ _ _ _ (mode_known (goal.at.returns-then-tones-ne64 c).Else-not-is_mode) c.if-tones-ne64.true)
 
 pub returns-then-weights-ne64 : goal.returns-then-weights-ne64
 returns-then-weights-ne64 c =
     let n = c.before.before in
-    c.refused-then-weights-ne64.ensures ∙ sym (refuses_weights _ _ _ _ (mode_known n.before) n.if-tones-ne64.false c.if-weights-ne64.true)
+    c.refused-then-weights-ne64.ensures ∙ sym (refuses_weights _ _ _ _ (mode_known (goal.at.returns-then-weights-ne64 c).Else-not-is_mode) n.if-tones-ne64.false c.if-weights-ne64.true)
 
 -- what the checks before the ranges leave
-passed : (c : goal.Else-weights-ne64) → let a = c.args in Passed a.mode (length a.tones.now) (length a.weights.now)
-passed c = record { mode = mode_known c.before.before; count = c.if-tones-ne64.false; weighed = c.if-weights-ne64.false }
+passed : (c : Else-weights-ne64) → let a = c.args in Passed a.mode (length a.tones.now) (length a.weights.now)
+passed c =
+    let mode_known : is_mode c.args.mode ≡ true = sym c.is_mode.ensures ∙ c.if-not-is_mode.false in
+    record { mode = mode_known; count = c.if-tones-ne64.false; weighed = c.if-weights-ne64.false }
 
 -- the range check is by the mode's count of tones
-range : (c : goal.After-check-range) → let a = c.args in c.check-range.result.bad ≡ first_bad_tone (2 ^ a.mode) a.tones.now
+range : (c : After-check-range) → let a = c.args in c.check-range.result.bad ≡ first_bad_tone (2 ^ a.mode) a.tones.now
 range c =
+    let mode_known : is_mode c.args.mode ≡ true = sym c.is_mode.ensures ∙ c.if-not-is_mode.false in
+    let passed : let a = c.args in Passed a.mode (length a.tones.now) (length a.weights.now) = record { mode = mode_known; count = c.if-tones-ne64.false; weighed = c.if-weights-ne64.false } in
     let a = c.args in
     bad_found _ _ c.check-range.ensures
-    ∙ ap (λ (limit : ℕ). first_bad_tone limit a.tones.now) (c.tone_count.ensures ∙ mode_tones a.mode (passed c.before.before).mode)
+    ∙ ap (λ (limit : ℕ). first_bad_tone limit a.tones.now) (c.tone_count.ensures ∙ mode_tones a.mode (passed).mode)
 
 pub returns-then-range-lt64 : goal.returns-then-range-lt64
 returns-then-range-lt64 c =
     let k = c.before.before.before in
-    c.refused-then-range-lt64.ensures ∙ ap (refused 8) (range k) ∙ sym (refuses_tone _ _ _ _ (passed k.before.before) (rw (range k) at c.if-range-lt64.true))
+    c.refused-then-range-lt64.ensures ∙ ap (refused 8) (range (goal.at.returns-then-range-lt64 c).After-check-range) ∙ sym (refuses_tone _ _ _ _ (passed (goal.at.returns-then-range-lt64 c).Else-weights-ne64) (rw (range (goal.at.returns-then-range-lt64 c).After-check-range) at c.if-range-lt64.true))
 
 -- no tone is bad
-in_range : (c : goal.Else-range-lt64) → let a = c.args in 64 ≤ first_bad_tone (2 ^ a.mode) a.tones.now
-in_range c = rw (range c.before.before) at c.if-range-lt64.false
+in_range : (c : Else-range-lt64) → let a = c.args in 64 ≤ first_bad_tone (2 ^ a.mode) a.tones.now
+in_range c =
+    let mode_known : is_mode c.args.mode ≡ true = sym c.is_mode.ensures ∙ c.if-not-is_mode.false in
+    let passed : let a = c.args in Passed a.mode (length a.tones.now) (length a.weights.now) = record { mode = mode_known; count = c.if-tones-ne64.false; weighed = c.if-weights-ne64.false } in
+    let range : let a = c.args in c.check-range.result.bad ≡ first_bad_tone (2 ^ a.mode) a.tones.now = let a = c.args in
+    bad_found _ _ c.check-range.ensures
+    ∙ ap (λ (limit : ℕ). first_bad_tone limit a.tones.now) (c.tone_count.ensures ∙ mode_tones a.mode (passed).mode) in
+    rw (range) at c.if-range-lt64.false
 
 pub returns-then-bad_weight-lt64 : goal.returns-then-bad_weight-lt64
 returns-then-bad_weight-lt64 c =
@@ -63,23 +74,26 @@ returns-then-bad_weight-lt64 c =
     let k = w.before.before.before in
     c.refused-then-bad_weight-lt64.ensures
     ∙ ap (refused 14) w.first_bad_weight-bad_weight.ensures
-    ∙ sym (refuses_weight _ _ _ _ (passed k.before.before) (in_range w.before) (rw w.first_bad_weight-bad_weight.ensures at c.if-bad_weight-lt64.true))
+    ∙ sym (refuses_weight _ _ _ _ (passed (goal.at.returns-then-bad_weight-lt64 c).Else-weights-ne64) (in_range (goal.at.returns-then-bad_weight-lt64 c).Else-range-lt64) (rw w.first_bad_weight-bad_weight.ensures at c.if-bad_weight-lt64.true))
 
 -- nor is a weight
-weighed : (c : goal.Else-bad_weight-lt64) → let a = c.args in 64 ≤ first_bad_weight a.greatest a.weights.now
+weighed : (c : Else-bad_weight-lt64) → let a = c.args in 64 ≤ first_bad_weight a.greatest a.weights.now
 weighed c = rw c.first_bad_weight-bad_weight.ensures at c.if-bad_weight-lt64.false
 
-has_weights : (c : goal.Else-bad_weight-lt64) → HasWeights 15 c.args.weights.now
+has_weights : (c : Else-bad_weight-lt64) → HasWeights 15 c.args.weights.now
 has_weights c =
+    let mode_known : is_mode c.args.mode ≡ true = sym c.is_mode.ensures ∙ c.if-not-is_mode.false in
+    let passed : let a = c.args in Passed a.mode (length a.tones.now) (length a.weights.now) = record { mode = mode_known; count = c.if-tones-ne64.false; weighed = c.if-weights-ne64.false } in
+    let weighed : let a = c.args in 64 ≤ first_bad_weight a.greatest a.weights.now = rw c.first_bad_weight-bad_weight.ensures at c.if-bad_weight-lt64.false in
     let k = c.before.before.before.before in
-    fewer_weights _ _ 15 k.requires (in_range_weights _ _ (passed k.before.before).weighed (weighed c))
+    fewer_weights _ _ 15 k.requires (in_range_weights _ _ (passed).weighed (weighed))
 
 pub hear-heard-requires : goal.hear-heard-requires
 hear-heard-requires c =
     let k = c.before.before.before.before in
-    let p = passed k.before.before in
+    let p = passed (goal.at.hear-heard-requires c).Else-weights-ne64 in
     let mode = k.args.mode in
-    let tones = in_range_tones mode _ p.count (in_range c.before.before) in (
+    let tones = in_range_tones mode _ p.count (in_range (goal.at.hear-heard-requires c).Else-range-lt64) in (
       record {
         count = tones.count;
         each = λ t l. ⊎_elim (λ h. inl (lt_of_lt_of_le h (pow_mono {i = mode} {j = 8} (mode_range mode p.mode).1))) (λ e. inr e) (tones.each t l);
@@ -90,7 +104,7 @@ hear-heard-requires c =
 pub total-requires : goal.total-requires
 total-requires c =
     let h = c.before.before.before.before in
-    rw (weights_heard _ _ h.hear-heard.ensures) (weights_few _ _ (has_weights h.before))
+    rw (weights_heard _ _ h.hear-heard.ensures) (weights_few _ _ (has_weights (goal.at.total-requires c).Else-bad_weight-lt64))
 
 pub returns : goal.returns
 returns c =
@@ -98,6 +112,6 @@ returns c =
     let v = t.before.before in
     let h = v.before.before.before in
     let e = h.before in
-    let p = passed e.before.before.before.before.before.before in
-    same_summed _ _ (has_weights e) _ p.mode _ (v.values-values.ensures ∙ mode_values _ p.mode) _ _ _ h.hear-heard.ensures t.total.ensures c.energies.ensures
-    ∙ sym (sums_up _ _ _ _ p (in_range e.before.before) (weighed e))
+    let p = passed (goal.at.returns c).Else-weights-ne64 in
+    same_summed _ _ (has_weights (goal.at.returns c).Else-bad_weight-lt64) _ p.mode _ (v.values-values.ensures ∙ mode_values _ p.mode) _ _ _ h.hear-heard.ensures t.total.ensures c.energies.ensures
+    ∙ sym (sums_up _ _ _ _ p (in_range (goal.at.returns c).Else-range-lt64) (weighed (goal.at.returns c).Else-bad_weight-lt64))

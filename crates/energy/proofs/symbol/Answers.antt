@@ -8,13 +8,14 @@ use Rattle.lists.proofs.Tables.{tab_at}
 use Rattle.chain.specs.Tables.{symbol_of}
 use Rattle.block_decoder.specs.Internal.{seen_symbol}
 use Rattle.energy.proofs.symbol.Goals as goal
+use Rattle.energy.proofs.symbol.Goals.{Else-tone-eq-MISSING}
 
 -- a tone that is not missing has an entry
-below : (c : goal.Else-tone-eq-MISSING) → c.args.tone < 256
+below : (c : Else-tone-eq-MISSING) → c.args.tone < 256
 below c = ⊎_elim (λ l. l) (λ e. absurd (c.if-tone-eq-MISSING.false e)) c.requires.1
 
 pub bounds-table-tone : goal.bounds-table-tone
-bounds-table-tone c = below c
+bounds-table-tone c = below (goal.at.bounds-table-tone c).Else-tone-eq-MISSING
 
 pub returns-then-tone-eq-MISSING : goal.returns-then-tone-eq-MISSING
 unfolding seen_symbol
@@ -25,4 +26,4 @@ unfolding seen_symbol
 returns-else-tone-eq-MISSING c =
     let e = c.before in
     let s = e.before in
-    rw (ne_eqb _ _ e.if-tone-eq-MISSING.false) (ap (λ (x : List _). num x s.args.tone) s.requires.0 ∙ tab_at symbol_of 0 256 s.args.tone (below e))
+    rw (ne_eqb _ _ e.if-tone-eq-MISSING.false) (ap (λ (x : List _). num x s.args.tone) s.requires.0 ∙ tab_at symbol_of 0 256 s.args.tone (below (goal.at.returns-else-tone-eq-MISSING c).Else-tone-eq-MISSING))

@@ -4,19 +4,20 @@ use native.Mathlib.Omega.{arith}
 use lib.ListN.{length}
 use Rattle.finder.proofs.Parts.{start_fits, is_part, no_part}
 use Rattle.finder.proofs.part_found.Goals as goal
+use Rattle.finder.proofs.part_found.Goals.{In-Start-2}
 
 -- the 64 tones lie within the run
-fits : (c : goal.In-Start-2) → c.in-Start.start + 64 ≤ length c.args.run.now
+fits : (c : In-Start-2) → c.in-Start.start + 64 ≤ length c.args.run.now
 fits c = start_fits c.args.run.now _ _ c.in-Start.is c.requires
 
 pub overflow_add-result : goal.overflow_add-result
-overflow_add-result c = omega (arith, fits c.before)
+overflow_add-result c = omega (arith, fits (goal.at.overflow_add-result c).In-Start-2)
 
 pub offset_bounds-run-start : goal.offset_bounds-run-start
-offset_bounds-run-start c = omega (arith, fits c.before)
+offset_bounds-run-start c = omega (arith, fits (goal.at.offset_bounds-run-start c).In-Start-2)
 
 pub slice_bounds-result-end : goal.slice_bounds-result-end
-slice_bounds-result-end c = omega (arith, fits c.before)
+slice_bounds-result-end c = omega (arith, fits (goal.at.slice_bounds-result-end c).In-Start-2)
 
 -- no such goal: slice-bounds-result-start-2
 -- part_result_start_2 : tie.Need-slice-bounds-result-start-2

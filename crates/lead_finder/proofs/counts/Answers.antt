@@ -1,13 +1,12 @@
 use mathlib.Core.Path.{◌≡◌, refl, sym, ◌∙◌, ap}
-use Prim.Native.Nat.{◌-◌, ◌<◌, ◌≤◌}
+use Prim.Native.Nat.{◌<◌}
 use native.Mathlib.Numerals.{add-one}
 use native.Mathlib.Omega.{arith}
-use lib.ListN.{length, take, length-set}
+use lib.ListN.{length, length-set}
 use lib.Seq.{take_all, take-suc-set}
 use mir.Syntax.{w8}
 use mir.Val.{to_z, of_z}
 use mir.Facts.{to_z-of_z}
-use borrow.Author.Rules.{rules}
 use Rattle.lists.specs.Lists.{tab}
 use Rattle.lead_finder.specs.Counts.{count_at}
 use Rattle.lead_finder.proofs.counts.Goals as goal
@@ -22,7 +21,7 @@ loop-t-preserved c =
     let l = c.loop-t in
     let a = c.args in
     let value : to_z w8 (of_z w8 c.count.result) ≡ count_at a.signs a.weights.now l.t =
-    to_z-of_z (record { sfits = c.count.type_inv }) ∙ c.count.ensures in
+    to_z-of_z {w = w8} (record { sfits = c.count.type_inv }) ∙ c.count.ensures in
     let inside : l.t < length l.counts = omega arith in (
       omega arith,
       length-set l.counts l.t _ ∙ l.invariant.1,

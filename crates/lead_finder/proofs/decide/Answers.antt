@@ -5,7 +5,6 @@ use Prim.Native.Nat.{◌%◌}
 use native.Mathlib.Omega.{arith}
 use lib.IntN.{ℤ, pos}
 use lib.ListN.{get_or}
-use borrow.Author.Rules.{rules}
 use Rattle.lists.specs.Lists.{tab, num, at}
 use Rattle.lists.proofs.Tables.{tab_at}
 use Rattle.walsh.specs.Words.{corr, correlations_of}

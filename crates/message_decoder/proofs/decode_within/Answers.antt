@@ -21,80 +21,100 @@ use Rattle.message_decoder.specs.Decoding.{heard_characters, message_characters}
 use Rattle.message_decoder.proofs.Hearing.{collected_fit, collected_front}
 use Rattle.message_decoder.proofs.DecodeCases.{Passed, Hearable, refuses_mode, refuses_lead, refuses_count, refuses_room, refuses_tone, judges, text_kept, refusal_told_lem, delivery_told}
 use Rattle.message_decoder.proofs.decode_within.Goals as goal
+use Rattle.message_decoder.proofs.decode_within.Goals.{Else-not-is_mode, Else-not-is_lead, Else-not-is_whole, Else-text-total, After-check-range, Else-range-tones, After-collect-heard}
 
 pub returns-then-not-is_mode : goal.returns-then-not-is_mode
 returns-then-not-is_mode c =
     let m = c.before.before in record { answer = (refusal_told_lem _ _ _ _ _ c.at.ensures (refuses_mode _ _ _ _ _ (sym m.is_mode.ensures ∙ c.if-not-is_mode.true))).0; output = (refusal_told_lem _ _ _ _ _ c.at.ensures (refuses_mode _ _ _ _ _ (sym m.is_mode.ensures ∙ c.if-not-is_mode.true))).1 }
 
 -- the settings and the count of tones, once their checks have passed
-mode_known : (c : goal.Else-not-is_mode) → is_mode c.args.mode ≡ true
+mode_known : (c : Else-not-is_mode) → is_mode c.args.mode ≡ true
 mode_known c = sym c.is_mode.ensures ∙ c.if-not-is_mode.false
 
-lead_known : (c : goal.Else-not-is_lead) → is_lead c.args.least_lead ≡ true
+lead_known : (c : Else-not-is_lead) → is_lead c.args.least_lead ≡ true
 lead_known c = sym c.is_lead.ensures ∙ c.if-not-is_lead.false
 
-whole_known : (c : goal.Else-not-is_whole) → let a = c.args in is_whole a.limit a.mode (length a.tones.now) ≡ true
+whole_known : (c : Else-not-is_whole) → let a = c.args in is_whole a.limit a.mode (length a.tones.now) ≡ true
 whole_known c = sym c.is_whole.ensures ∙ c.if-not-is_whole.false
 
 pub returns-then-not-is_lead : goal.returns-then-not-is_lead
 returns-then-not-is_lead c =
-    let l = c.before.before in record { answer = (refusal_told_lem _ _ _ _ _ c.at-then-not-is_lead.ensures (refuses_lead _ _ _ _ _ (mode_known l.before) (sym l.is_lead.ensures ∙ c.if-not-is_lead.true))).0; output = (refusal_told_lem _ _ _ _ _ c.at-then-not-is_lead.ensures (refuses_lead _ _ _ _ _ (mode_known l.before) (sym l.is_lead.ensures ∙ c.if-not-is_lead.true))).1 }
+    let l = c.before.before in record { answer = (refusal_told_lem _ _ _ _ _ c.at-then-not-is_lead.ensures (refuses_lead _ _ _ _ _ (mode_known (goal.at.returns-then-not-is_lead c).Else-not-is_mode) (sym l.is_lead.ensures ∙ c.if-not-is_lead.true))).0; output = (refusal_told_lem _ _ _ _ _ c.at-then-not-is_lead.ensures (refuses_lead _ _ _ _ _ (mode_known (goal.at.returns-then-not-is_lead c).Else-not-is_mode) (sym l.is_lead.ensures ∙ c.if-not-is_lead.true))).1 }
 
 pub is_whole-requires : goal.is_whole-requires
 is_whole-requires c =
-    let m = mode_range _ (mode_known c.before.before) in
+    let m = mode_range _ (mode_known (goal.at.is_whole-requires c).Else-not-is_mode) in
     (search rules, m.0, m.1)
 
 pub returns-then-not-is_whole : goal.returns-then-not-is_whole
 returns-then-not-is_whole c =
     let w = c.before.before in record {
       answer = (refusal_told_lem _ _ _ _ _ c.at-then-not-is_whole.ensures
-          (refuses_count _ _ _ _ _ (mode_known w.before.before.before) (lead_known w.before) (sym w.is_whole.ensures ∙ c.if-not-is_whole.true))).0;
+          (refuses_count _ _ _ _ _ (mode_known (goal.at.returns-then-not-is_whole c).Else-not-is_mode) (lead_known (goal.at.returns-then-not-is_whole c).Else-not-is_lead) (sym w.is_whole.ensures ∙ c.if-not-is_whole.true))).0;
       output = (refusal_told_lem _ _ _ _ _ c.at-then-not-is_whole.ensures
-          (refuses_count _ _ _ _ _ (mode_known w.before.before.before) (lead_known w.before) (sym w.is_whole.ensures ∙ c.if-not-is_whole.true))).1;
+          (refuses_count _ _ _ _ _ (mode_known (goal.at.returns-then-not-is_whole c).Else-not-is_mode) (lead_known (goal.at.returns-then-not-is_whole c).Else-not-is_lead) (sym w.is_whole.ensures ∙ c.if-not-is_whole.true))).1;
     }
 
 pub overflow_mul-total : goal.overflow_mul-total
 overflow_mul-total c =
     let a = c.args in
-    omega (arith, mul-le-mul_left (length a.tones.now / 64) (mode_range a.mode (mode_known c.before.before.before.before)).1)
+    omega (arith, mul-le-mul_left (length a.tones.now / 64) (mode_range a.mode (mode_known (goal.at.overflow_mul-total c).Else-not-is_mode)).1)
 
 pub returns-then-text-total : goal.returns-then-text-total
 returns-then-text-total c =
     let w = c.before.before in
-    let l = w.before.before in record { answer = (refusal_told_lem _ _ _ _ _ c.at-then-text-total.ensures (refuses_room _ _ _ _ _ (mode_known l.before.before) (lead_known l) (whole_known w) c.if-text-total.true)).0; output = (refusal_told_lem _ _ _ _ _ c.at-then-text-total.ensures (refuses_room _ _ _ _ _ (mode_known l.before.before) (lead_known l) (whole_known w) c.if-text-total.true)).1 }
+    let l = w.before.before in record { answer = (refusal_told_lem _ _ _ _ _ c.at-then-text-total.ensures (refuses_room _ _ _ _ _ (mode_known (goal.at.returns-then-text-total c).Else-not-is_mode) (lead_known (goal.at.returns-then-text-total c).Else-not-is_lead) (whole_known (goal.at.returns-then-text-total c).Else-not-is_whole) c.if-text-total.true)).0; output = (refusal_told_lem _ _ _ _ _ c.at-then-text-total.ensures (refuses_room _ _ _ _ _ (mode_known (goal.at.returns-then-text-total c).Else-not-is_mode) (lead_known (goal.at.returns-then-text-total c).Else-not-is_lead) (whole_known (goal.at.returns-then-text-total c).Else-not-is_whole) c.if-text-total.true)).1 }
 
-passed : (c : goal.Else-text-total) → let a = c.args in Passed a.limit a.mode a.least_lead (length a.tones.now) (length a.text.now)
+passed : (c : Else-text-total) → let a = c.args in Passed a.limit a.mode a.least_lead (length a.tones.now) (length a.text.now)
 passed c =
+    let mode_known : is_mode c.args.mode ≡ true = sym c.is_mode.ensures ∙ c.if-not-is_mode.false in
+    let lead_known : is_lead c.args.least_lead ≡ true = sym c.is_lead.ensures ∙ c.if-not-is_lead.false in
+    let whole_known : let a = c.args in is_whole a.limit a.mode (length a.tones.now) ≡ true = sym c.is_whole.ensures ∙ c.if-not-is_whole.false in
     let w = c.before in
     let l = w.before.before in
-    record { mode = mode_known l.before.before; lead = lead_known l; whole = whole_known w; fits = c.if-text-total.false }
+    record { mode = mode_known; lead = lead_known; whole = whole_known; fits = c.if-text-total.false }
 
 -- the range check is by the mode's count of tones
-range : (c : goal.After-check-range) → let a = c.args in c.check-range.result.bad ≡ first_bad_tone (2 ^ a.mode) a.tones.now
+range : (c : After-check-range) → let a = c.args in c.check-range.result.bad ≡ first_bad_tone (2 ^ a.mode) a.tones.now
 range c =
+    let mode_known : is_mode c.args.mode ≡ true = sym c.is_mode.ensures ∙ c.if-not-is_mode.false in
+    let lead_known : is_lead c.args.least_lead ≡ true = sym c.is_lead.ensures ∙ c.if-not-is_lead.false in
+    let whole_known : let a = c.args in is_whole a.limit a.mode (length a.tones.now) ≡ true = sym c.is_whole.ensures ∙ c.if-not-is_whole.false in
+    let passed : let a = c.args in Passed a.limit a.mode a.least_lead (length a.tones.now) (length a.text.now) = let w = c.before in
+    let l = w.before.before in
+    record { mode = mode_known; lead = lead_known; whole = whole_known; fits = c.if-text-total.false } in
     let t = c.before in
     let a = t.args in
-    bad_found _ _ c.check-range.ensures ∙ ap (λ (limit : ℕ). first_bad_tone limit a.tones.now) (t.tone_count.ensures ∙ mode_tones a.mode (passed t.before).mode)
+    bad_found _ _ c.check-range.ensures ∙ ap (λ (limit : ℕ). first_bad_tone limit a.tones.now) (t.tone_count.ensures ∙ mode_tones a.mode (passed).mode)
 
-hearable : (c : goal.Else-range-tones) → let a = c.args in Hearable a.limit a.mode a.least_lead a.tones.now (length a.text.now)
-hearable c = record { passed = passed c.before.before.before.before; in_range = omega (arith, range c.before.before, c.if-range-tones.false) }
+hearable : (c : Else-range-tones) → let a = c.args in Hearable a.limit a.mode a.least_lead a.tones.now (length a.text.now)
+hearable c =
+    let mode_known : is_mode c.args.mode ≡ true = sym c.is_mode.ensures ∙ c.if-not-is_mode.false in
+    let lead_known : is_lead c.args.least_lead ≡ true = sym c.is_lead.ensures ∙ c.if-not-is_lead.false in
+    let whole_known : let a = c.args in is_whole a.limit a.mode (length a.tones.now) ≡ true = sym c.is_whole.ensures ∙ c.if-not-is_whole.false in
+    let passed : let a = c.args in Passed a.limit a.mode a.least_lead (length a.tones.now) (length a.text.now) = let w = c.before in
+    let l = w.before.before in
+    record { mode = mode_known; lead = lead_known; whole = whole_known; fits = c.if-text-total.false } in
+    let range : let a = c.args in c.check-range.result.bad ≡ first_bad_tone (2 ^ a.mode) a.tones.now = let t = c.before in
+    let a = t.args in
+    bad_found _ _ c.check-range.ensures ∙ ap (λ (limit : ℕ). first_bad_tone limit a.tones.now) (t.tone_count.ensures ∙ mode_tones a.mode (passed).mode) in
+    record { passed = passed; in_range = omega (arith, range, c.if-range-tones.false) }
 
 pub returns-then-range-tones : goal.returns-then-range-tones
 returns-then-range-tones c =
-    let f = c.before.before.before in record { answer = (refusal_told_lem _ _ _ _ _ (c.at-then-range-tones.ensures ∙ ap (refused_at 8) (range f)) (refuses_tone _ _ _ _ _ (passed f.before.before) (omega (arith, range f, c.if-range-tones.true)))).0; output = (refusal_told_lem _ _ _ _ _ (c.at-then-range-tones.ensures ∙ ap (refused_at 8) (range f)) (refuses_tone _ _ _ _ _ (passed f.before.before) (omega (arith, range f, c.if-range-tones.true)))).1 }
+    let f = c.before.before.before in record { answer = (refusal_told_lem _ _ _ _ _ (c.at-then-range-tones.ensures ∙ ap (refused_at 8) (range (goal.at.returns-then-range-tones c).After-check-range)) (refuses_tone _ _ _ _ _ (passed (goal.at.returns-then-range-tones c).Else-text-total) (omega (arith, range (goal.at.returns-then-range-tones c).After-check-range, c.if-range-tones.true)))).0; output = (refusal_told_lem _ _ _ _ _ (c.at-then-range-tones.ensures ∙ ap (refused_at 8) (range (goal.at.returns-then-range-tones c).After-check-range)) (refuses_tone _ _ _ _ _ (passed (goal.at.returns-then-range-tones c).Else-text-total) (omega (arith, range (goal.at.returns-then-range-tones c).After-check-range, c.if-range-tones.true)))).1 }
 
 pub collect-heard-requires : goal.collect-heard-requires
 collect-heard-requires c =
     let s = c.before.before.before.before.before.before.before.before.before.before.before.before.before.before.before in
     let a = s.args in
-    let h = hearable c.before in
+    let h = hearable (goal.at.collect-heard-requires c).Else-range-tones in
     let m = mode_range a.mode h.passed.mode in
     let whole = whole_blocks a.limit a.mode (length a.tones.now) h.passed.whole in
-    let few = whole_few a.limit a.mode (length a.tones.now) h.passed.whole m.0 in record { settings = (((h.passed.mode, h.passed.lead), (whole, (h.in_range, omega (arith, m.1, few, s.requires.1, h.passed.fits))))).0; whole = (((h.passed.mode, h.passed.lead), (whole, (h.in_range, omega (arith, m.1, few, s.requires.1, h.passed.fits))))).1; range = (((h.passed.mode, h.passed.lead), (whole, (h.in_range, omega (arith, m.1, few, s.requires.1, h.passed.fits))))).2; room = (((h.passed.mode, h.passed.lead), (whole, (h.in_range, omega (arith, m.1, few, s.requires.1, h.passed.fits))))).3 }
+    let few = whole_few a.limit a.mode (length a.tones.now) h.passed.whole m.0 in record { settings = (h.passed.mode, h.passed.lead); whole = whole; range = h.in_range; room = omega (arith, m.1, few, s.requires.room, h.passed.fits) }
 
 -- what was collected, by the message's characters
-judged : (c : goal.After-collect-heard) → let a = c.args in
+judged : (c : After-collect-heard) → let a = c.args in
     c.collect-heard.result ≡ unless_unclear a.least_lead (message_characters a.mode a.tones.now) (Text (length a.tones.now / 64 * a.mode))
 unfolding message_characters
 judged c = c.collect-heard.ensures.answer
@@ -104,12 +124,15 @@ pub returns-in-Refused : goal.returns-in-Refused
 returns-in-Refused c =
     let d = c.before.before.before.before in
     let e = c.in-Refused.is in
-    let refused = judges _ _ _ _ _ (hearable d.before.before) ∙ refused_alike _ _ _ _ (sym (judged d) ∙ e) in record { answer = e ∙ sym refused; output = sym (text_kept _ _ _ _ _ refused) }
+    let refused = judges _ _ _ _ _ (hearable (goal.at.returns-in-Refused c).Else-range-tones) ∙ refused_alike _ _ _ _ (sym (judged (goal.at.returns-in-Refused c).After-collect-heard) ∙ e) in record { answer = e ∙ sym refused; output = sym (text_kept _ _ _ _ _ refused) }
 
 -- the codes collected from accepted blocks
-collected : (c : goal.After-collect-heard) {n : ℕ} → c.collect-heard.result ≡ Text n → let a = c.args in
+collected : (c : After-collect-heard) {n : ℕ} → c.collect-heard.result ≡ Text n → let a = c.args in
     let count = length a.tones.now / 64 in c.collect-heard.new.codes ≡ over (codes_of (heard_characters a.mode a.tones.now count)) a.codes.now
-collected c e = c.collect-heard.ensures.output (e ∙ sym (text_told _ _ _ _ (sym (judged c) ∙ e)).1)
+collected c e =
+    let judged : let a = c.args in
+    c.collect-heard.result ≡ unless_unclear a.least_lead (message_characters a.mode a.tones.now) (Text (length a.tones.now / 64 * a.mode)) = c.collect-heard.ensures.answer in
+    c.collect-heard.ensures.output (e ∙ sym (text_told _ _ _ _ (sym (judged) ∙ e)).1)
 
 pub slice_bounds-deliver-end : goal.slice_bounds-deliver-end
 slice_bounds-deliver-end c =
@@ -128,9 +151,9 @@ returns-in-Text c =
     let a = d.before.args in
     let codes = collected_front a.mode a.tones.now (length a.tones.now / 64) d.collect.new.1.1.1.1.0 _ (collected d e) in record {
       answer = (delivery_told a.limit a.mode a.least_lead a.tones.now a.text.now codes
-          (judges _ _ _ _ _ (hearable d.before.before) ∙ clear_told _ _ _ (text_told _ _ _ _ (sym (judged d) ∙ e)).0)
+          (judges _ _ _ _ _ (hearable (goal.at.returns-in-Text c).Else-range-tones) ∙ clear_told _ _ _ (text_told _ _ _ _ (sym (judged (goal.at.returns-in-Text c).After-collect-heard) ∙ e)).0)
           v.deliver.ensures.answer v.deliver.ensures.output).0;
       output = (delivery_told a.limit a.mode a.least_lead a.tones.now a.text.now codes
-          (judges _ _ _ _ _ (hearable d.before.before) ∙ clear_told _ _ _ (text_told _ _ _ _ (sym (judged d) ∙ e)).0)
+          (judges _ _ _ _ _ (hearable (goal.at.returns-in-Text c).Else-range-tones) ∙ clear_told _ _ _ (text_told _ _ _ _ (sym (judged (goal.at.returns-in-Text c).After-collect-heard) ∙ e)).0)
           v.deliver.ensures.answer v.deliver.ensures.output).1;
     }

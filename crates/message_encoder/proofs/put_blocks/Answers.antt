@@ -14,26 +14,27 @@ use Rattle.message_encoder.proofs.Parts.{part_length}
 use Rattle.message_encoder.proofs.Counts.{next_place, place_room}
 use Rattle.message_encoder.proofs.Sending.{block_written, codes_handed, blocks_more}
 use Rattle.message_encoder.proofs.put_blocks.Goals as goal
+use Rattle.message_encoder.proofs.put_blocks.Goals.{Start, In-loop-k, After-encode_block}
 
 pub loop-k-init : goal.loop-k-init
 unfolding sent_tones joined over
 loop-k-init c = (search rules, sym (zero-mul _), refl, refl)
 
-mode_known : (s : goal.Start) → (1 ≤ s.args.mode) × (s.args.mode ≤ 8)
-mode_known s = mode_range s.args.mode s.requires.0
+mode_known : (s : Start) → (1 ≤ s.args.mode) × (s.args.mode ≤ 8)
+mode_known s = mode_range s.args.mode s.requires.mode
 
 -- the block's codes lie within those of all blocks
-room : (c : goal.In-loop-k) → c.loop-k.at + c.args.mode ≤ 2048
+room : (c : In-loop-k) → c.loop-k.at + c.args.mode ≤ 2048
 room c =
     let l = c.before in
     let s = l.before.before.before in
     omega (arith, place_room l.loop-k.k s.args.count s.args.mode c.loop-k-test.true, s.requires)
 
 pub codes_from-codes-requires : goal.codes_from-codes-requires
-codes_from-codes-requires c = ((mode_known c.before.before.before.before).1, omega (arith, room c))
+codes_from-codes-requires c = ((mode_known (goal.at.codes_from-codes-requires c).Start).1, omega (arith, room (goal.at.codes_from-codes-requires c).In-loop-k))
 
 pub slice_bounds-encode_block-end : goal.slice_bounds-encode_block-end
-slice_bounds-encode_block-end c = omega (arith, (mode_known c.before).1)
+slice_bounds-encode_block-end c = omega (arith, (mode_known (goal.at.slice_bounds-encode_block-end c).Start).1)
 
 -- no such goal: slice-bounds-encode-block-start-2
 -- part_encode_block_start_2 : tie.Need-slice-bounds-encode-block-start-2 invariant_loop decreases_loop
@@ -44,10 +45,10 @@ slice_bounds-encode_block-end c = omega (arith, (mode_known c.before).1)
 -- part_encode_block_end_2 c = search rules
 
 pub overflow_add-at : goal.overflow_add-at
-overflow_add-at c = omega (arith, room c.before.before.before.before.before.before.before)
+overflow_add-at c = omega (arith, room (goal.at.overflow_add-at c).In-loop-k)
 
 -- the part lent holds the block's tones
-put : (c : goal.After-encode_block) → let l = c.before.before.before.before.before.before in let a = l.before.args in c.encode_block.new.tones ≡ tones_of a.mode (block_codes a.mode a.text.now l.loop.k)
+put : (c : After-encode_block) → let l = c.before.before.before.before.before.before in let a = l.before.args in c.encode_block.new.tones ≡ tones_of a.mode (block_codes a.mode a.text.now l.loop.k)
 put c =
     let i = c.before.before.before in
     let l = i.before.before.before in
@@ -56,14 +57,14 @@ put c =
     let codes : take (a.mode - 0) i.codes_from-codes.result ≡ block_codes a.mode a.text.now l.loop.k =
     ap (take (a.mode - 0)) i.codes_from-codes.ensures ∙ codes_handed a.mode a.text.now l.loop.k l.loop.at l.loop.invariant.1 in
     let part = take (64 * l.loop.k + 64 - 64 * l.loop.k) (drop (64 * l.loop.k) l.loop.tones) in
-    c.encode_block.ensures.output ∙ ap (λ (x : List ℕ). encoded_into a.mode x part) codes ∙ block_written a.mode a.text.now l.loop.k part s.requires.0 s.requires.1.0 (part_length l.loop.tones (64 * l.loop.k) 64 (omega arith))
+    c.encode_block.ensures.output ∙ ap (λ (x : List ℕ). encoded_into a.mode x part) codes ∙ block_written a.mode a.text.now l.loop.k part s.requires.mode s.requires.codes (part_length l.loop.tones (64 * l.loop.k) 64 (omega arith))
 
 pub loop-k-preserved : goal.loop-k-preserved
 loop-k-preserved c =
     let e = c.before.before in
     let l = e.before.before.before.before.before.before in
     let a = l.before.args in
-    let more = blocks_more a.mode a.text.now l.loop.k l.loop.tones e.encode_block.new.tones a.tones.now l.loop.invariant.3 (put e) in
+    let more = blocks_more a.mode a.text.now l.loop.k l.loop.tones e.encode_block.new.tones a.tones.now l.loop.invariant.3 (put (goal.at.loop-k-preserved c).After-encode_block) in
     (search rules, next_place l.loop.k a.mode l.loop.at l.loop.invariant.1, search rules, more)
 
 pub returns : goal.returns

@@ -1,8 +1,6 @@
-use Rattle.std.proofs.Common.{◌≡◌, ◌+◌, ◌-◌, ◌≤◌, length, sym, ◌∙◌, arith, rules}
+use Rattle.std.proofs.Common.{◌≡◌, ◌-◌, ◌≤◌, length}
 use Rattle.lists.specs.Places.{scan}
-use Rattle.lists.proofs.Places.{scan_start, scan_hit, scan_miss, scan_end}
 use Rattle.tone_range.specs.Range.{bad_tone, first_bad_tone}
-use Rattle.tone_range.proofs.Looks.{looked_up_to, looked_at_all}
 use Rattle.tone_range.proofs.check.Given as goal
 
 abbrev pub invariant-loop-t : goal.invariant-loop-t

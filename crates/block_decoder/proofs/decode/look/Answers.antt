@@ -9,6 +9,7 @@ use Rattle.tone_range.specs.Range.{bad_tone, first_bad_tone}
 use Rattle.block_decoder.specs.Internal.{seen_to}
 use Rattle.block_decoder.proofs.Seen.{seen_length}
 use Rattle.block_decoder.proofs.decode.look.Goals as goal
+use Rattle.block_decoder.proofs.decode.look.Goals.{Start, After-look_row-t}
 
 pub loop-t-init : goal.loop-t-init
 unfolding first_bad_tone
@@ -17,7 +18,7 @@ loop-t-init c =
     (omega arith, refl, ap (scan (bad_tone s.args.limit s.args.tones.now) 0) (sym s.requires.1), s.requires.2)
 
 -- as many symbols as at the start
-length_first : (s : goal.Start) → length s.args.symbols.now ≡ 64
+length_first : (s : Start) → length s.args.symbols.now ≡ 64
 length_first s = rw s.requires.2 (seen_length s.args.tones.now 0 (omega arith))
 
 pub look_row-t-requires : goal.look_row-t-requires
@@ -27,10 +28,10 @@ look_row-t-requires c =
     (s.requires.0, l.symbols-table.ensures, omega (arith, l.loop-t.invariant.1, c.loop-t-test.true), s.requires.1, l.loop-t.invariant.3)
 
 -- the row that was looked at ends at place 64 at most
-row_end : (d : goal.After-look_row-t) → d.loop-t.t + 16 ≤ 64
+row_end : (d : After-look_row-t) → d.loop-t.t + 16 ≤ 64
 row_end d = omega (arith, d.loop-t.invariant.1, d.loop-t-test.true)
 
-row_most : (d : goal.After-look_row-t) → d.look_row-t.result ≤ d.loop-t.t + 16
+row_most : (d : After-look_row-t) → d.look_row-t.result ≤ d.loop-t.t + 16
 row_most d =
     let a = d.args in
     omega (arith, d.look_row-t.ensures.place, scan_most (bad_tone a.limit a.tones.now) d.loop-t.t 16)
@@ -40,10 +41,10 @@ returns-then-t-end c =
     let d = c.before.before.before in
     let l = d.before.before.before.before in
     let a = l.args in
-    let found = d.look_row-t.ensures.place in record { place = found ∙ sym (scan_within (bad_tone a.limit a.tones.now) l.loop-t.t 16 (64 - l.loop-t.t) (omega (arith, row_end d)) (omega (arith, found, c.if-t-end.true))) ∙ l.loop-t.invariant.2; symbols = d.look_row-t.ensures.symbols }
+    let found = d.look_row-t.ensures.place in record { place = found ∙ sym (scan_within (bad_tone a.limit a.tones.now) l.loop-t.t 16 (64 - l.loop-t.t) (omega (arith, row_end (goal.at.returns-then-t-end c).After-look_row-t)) (omega (arith, found, c.if-t-end.true))) ∙ l.loop-t.invariant.2; symbols = d.look_row-t.ensures.symbols }
 
 pub loop-t-smaller : goal.loop-t-smaller
-loop-t-smaller c = omega (arith, row_end c.before.before.before, c.if-t-end.false)
+loop-t-smaller c = omega (arith, row_end (goal.at.loop-t-smaller c).After-look_row-t, c.if-t-end.false)
 
 pub loop-t-preserved : goal.loop-t-preserved
 loop-t-preserved c =
@@ -51,10 +52,10 @@ loop-t-preserved c =
     let l = d.before.before.before.before in
     let a = l.args in
     let found = d.look_row-t.ensures.place in
-    let on : d.look_row-t.result ≡ l.loop-t.t + 16 = omega (arith, row_most d, c.if-t-end.false) in
+    let on : d.look_row-t.result ≡ l.loop-t.t + 16 = omega (arith, row_most (goal.at.loop-t-preserved c).After-look_row-t, c.if-t-end.false) in
     let left : 64 - (l.loop-t.t + 16) ≡ 64 - l.loop-t.t - 16 = omega arith in
-    let rest = scan_beyond (bad_tone a.limit a.tones.now) l.loop-t.t 16 (64 - l.loop-t.t) (omega (arith, row_end d)) (omega (arith, found, c.if-t-end.false)) in
-    (omega (arith, row_end d), omega (arith, l.loop-t.invariant.1), rw (on, left) (rest ∙ l.loop-t.invariant.2), d.look_row-t.ensures.symbols)
+    let rest = scan_beyond (bad_tone a.limit a.tones.now) l.loop-t.t 16 (64 - l.loop-t.t) (omega (arith, row_end (goal.at.loop-t-preserved c).After-look_row-t)) (omega (arith, found, c.if-t-end.false)) in
+    (omega (arith, row_end (goal.at.loop-t-preserved c).After-look_row-t), omega (arith, l.loop-t.invariant.1), rw (on, left) (rest ∙ l.loop-t.invariant.2), d.look_row-t.ensures.symbols)
 
 pub returns : goal.returns
 returns c =

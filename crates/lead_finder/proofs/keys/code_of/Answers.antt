@@ -1,5 +1,4 @@
 use mathlib.Core.Path.{sym, ap}
-use borrow.Author.Rules.{rules}
 use mir.Facts.{to_z-of_z}
 use Rattle.decision.specs.Decision.{code_of}
 use Rattle.lead_finder.proofs.Locals.{below_zero, not_below_zero}

@@ -3,14 +3,14 @@ use Prim.Native.Nat.{ℕ}
 use native.Mathlib.Omega.{arith}
 use mir.Syntax.{w32}
 use mir.Val.{to_z, of_z}
-use borrow.Author.Rules.{rules}
 use Rattle.lists.specs.Lists.{at}
 use Rattle.walsh.proofs.Locals.{reads}
 use Rattle.lead_finder.proofs.KeyOrder.{second_below, keys_decide}
 use Rattle.lead_finder.proofs.keys.find.Goals as goal
+use Rattle.lead_finder.proofs.keys.find.Goals.{Start}
 
 -- a correlation as a local holds it
-read : (c : goal.Start) (k : ℕ) → to_z w32 (of_z w32 (at c.args.correlations k)) ≡ at c.args.correlations k
+read : (c : Start) (k : ℕ) → to_z w32 (of_z w32 (at c.args.correlations k)) ≡ at c.args.correlations k
 read c k = reads (at c.args.correlations k) (omega (arith, c.requires.within k))
 
 pub overflow_sub-lead : goal.overflow_sub-lead
@@ -35,4 +35,4 @@ returns c =
     let v = fourth.word_of-next.result in
     keys_decide r _ start.keys-keys.ensures _ _ first.largest-first.ensures second.word_of-word.ensures
     _ _ third.largest-second.ensures fourth.word_of-next.ensures
-    c.code_of_lem.result _ _ c.code_of_lem.ensures (read s w) (read s v)
+    c.code_of.result _ _ c.code_of.ensures (read s w) (read s v)

@@ -1,19 +1,19 @@
 use mathlib.Core.Path.{◌≡◌, refl, sym, ◌∙◌, ap}
-use Prim.Native.Nat.{ℕ, ◌+◌, ◌*◌, ◌-◌, ◌<◌, ◌≤◌}
+use Prim.Native.Nat.{ℕ, ◌+◌, ◌*◌, ◌-◌, ◌<◌}
 use native.Mathlib.Numerals.{add-one}
 use native.Mathlib.Omega.{arith}
 use lib.IntN.{ℤ, nat_abs}
-use lib.ListN.{length, take, length-set}
+use lib.ListN.{length, length-set}
 use lib.Seq.{take_all, take-suc-set}
 use mir.Syntax.{w16}
 use mir.Val.{to_z, of_z}
-use borrow.Author.Rules.{rules}
 use Rattle.lists.specs.Lists.{tab, at}
 use Rattle.lead_finder.specs.Internal.{Magnitude}
 use Rattle.lead_finder.proofs.KeyOrder.{magnitudes_small, number_small, keys_from}
 use Rattle.lead_finder.proofs.Locals.{reads_16}
 use Rattle.walsh.proofs.Sizes.{upto}
 use Rattle.lead_finder.proofs.keys.keys.Goals as goal
+use Rattle.lead_finder.proofs.keys.keys.Goals.{After-narrowed-numbers}
 
 pub magnitudes-requires : goal.magnitudes-requires
 magnitudes-requires c = upto 8192 c.requires tt
@@ -23,12 +23,12 @@ narrowed-numbers-requires c =
     magnitudes_small (at c.args.correlations) _ c.magnitudes.ensures 8192 (upto 8192 c.requires tt).within
 
 -- the number at i, as `key` gets it, is a magnitude
-number : (c : goal.After-narrowed-numbers) (i : ℕ) → i < 64 → Magnitude (at c.narrowed-numbers.result i)
+number : (c : After-narrowed-numbers) (i : ℕ) → i < 64 → Magnitude (at c.narrowed-numbers.result i)
 number c i l =
     let start = c.before.before in
     number_small (at start.args.correlations) _ c.magnitudes.ensures _ c.narrowed-numbers.ensures i l (start.requires.within i)
 
-held : (c : goal.After-narrowed-numbers) (i : ℕ) → i < 64 → to_z w16 (of_z w16 (at c.narrowed-numbers.result i)) ≡ at c.narrowed-numbers.result i
+held : (c : After-narrowed-numbers) (i : ℕ) → i < 64 → to_z w16 (of_z w16 (at c.narrowed-numbers.result i)) ≡ at c.narrowed-numbers.result i
 held c i l = reads_16 (at c.narrowed-numbers.result i) (omega (arith, (number c i l).size))
 
 pub loop-i-init : goal.loop-i-init

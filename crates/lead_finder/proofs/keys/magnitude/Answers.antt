@@ -1,7 +1,6 @@
 use mathlib.Core.Path.{◌∙◌, ap}
 use native.Mathlib.Omega.{arith}
 use lib.IntN.{nat_abs}
-use borrow.Author.Rules.{rules}
 use Rattle.lists.proofs.Integers.{abs_neg}
 use Rattle.walsh.proofs.Locals.{reads}
 use Rattle.lead_finder.proofs.Locals.{negation, negation_fits, below_zero, not_below_zero, non_negative, turned_non_negative}

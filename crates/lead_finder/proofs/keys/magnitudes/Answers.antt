@@ -1,11 +1,10 @@
 use mathlib.Core.Path.{◌≡◌, refl, sym, ◌∙◌, ap}
-use Prim.Native.Nat.{◌-◌, ◌<◌, ◌≤◌}
+use Prim.Native.Nat.{◌<◌}
 use native.Mathlib.Numerals.{add-one}
 use native.Mathlib.Omega.{arith}
 use lib.IntN.{nat_abs}
-use lib.ListN.{length, take, length-set}
+use lib.ListN.{length, length-set}
 use lib.Seq.{take_all, take-suc-set}
-use borrow.Author.Rules.{rules}
 use Rattle.lists.specs.Lists.{tab, at}
 use Rattle.walsh.proofs.Locals.{reads}
 use Rattle.lead_finder.proofs.keys.magnitudes.Goals as goal

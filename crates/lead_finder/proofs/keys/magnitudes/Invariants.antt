@@ -1,13 +1,8 @@
-use mathlib.Core.Path.{◌≡◌, refl, sym, ◌∙◌, ap}
-use Prim.Native.Nat.{◌-◌, ◌<◌, ◌≤◌}
-use native.Mathlib.Numerals.{add-one}
-use native.Mathlib.Omega.{arith}
+use mathlib.Core.Path.{◌≡◌}
+use Prim.Native.Nat.{◌-◌, ◌≤◌}
 use lib.IntN.{nat_abs}
-use lib.ListN.{length, take, length-set}
-use lib.Seq.{take_all, take-suc-set}
-use borrow.Author.Rules.{rules}
+use lib.ListN.{length, take}
 use Rattle.lists.specs.Lists.{tab, at}
-use Rattle.walsh.proofs.Locals.{reads}
 use Rattle.lead_finder.proofs.keys.magnitudes.Given as goal
 
 abbrev pub invariant-loop-i : goal.invariant-loop-i

@@ -1,14 +1,13 @@
 use mathlib.Core.Path.{◌≡◌, refl, sym, ◌∙◌, ap}
-use Prim.Native.Nat.{◌-◌, ◌<◌, ◌≤◌}
+use Prim.Native.Nat.{◌<◌}
 use native.Mathlib.Numerals.{add-one}
 use native.Mathlib.Omega.{arith}
 use lib.IntN.{pos}
-use lib.ListN.{length, take, get_or, length-set}
+use lib.ListN.{length, get_or, length-set}
 use lib.Seq.{take_all, take-suc-set}
 use mir.Syntax.{w16}
 use mir.Val.{to_z, of_z}
 use mir.Facts.{to_z-of_z}
-use borrow.Author.Rules.{rules}
 use Rattle.lists.specs.Lists.{tab}
 use Rattle.lead_finder.proofs.keys.narrowed.Goals as goal
 
@@ -25,7 +24,7 @@ loop-i-preserved c =
     let l = c.loop-i in
     let numbers = c.args.numbers in
     let value : to_z w16 (of_z w16 c.narrow.result) ≡ pos (get_or numbers l.i 0) =
-    to_z-of_z (record { sfits = c.narrow.type_inv }) ∙ c.narrow.ensures in
+    to_z-of_z {w = w16} (record { sfits = c.narrow.type_inv }) ∙ c.narrow.ensures in
     let inside : l.i < length l.x = omega arith in (
       omega arith,
       length-set l.x l.i _ ∙ l.invariant.1,
