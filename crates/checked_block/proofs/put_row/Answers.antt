@@ -24,8 +24,7 @@ bounds-symbols-t c = omega (arith, length_kept (goal.at.bounds-symbols-t c).At-l
 pub loop-t-preserved : goal.loop-t-preserved
 loop-t-preserved c =
     let l = c.loop-t in
-    let s = c.before.before.before.before in
-    (search rules, search rules, put_symbol s.args.tones.now l.t l.symbols s.args.table.now (omega (arith, s.requires.1)) l.invariant.2 s.requires.0)
+    (search rules, search rules, put_symbol c.args.tones.now l.t l.symbols c.args.table.now (omega (arith, c.requires.1)) l.invariant.2 c.requires.0)
 
 pub returns : goal.returns
 returns c =

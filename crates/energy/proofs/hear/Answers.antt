@@ -19,23 +19,18 @@ bounds-tones-t c = omega (arith, c.loop-t-test.true, c.requires.0.count)
 
 pub symbol-requires : goal.symbol-requires
 symbol-requires c =
-    let i = c.before.before in
-    let l = i.before in
-    (l.symbols-table.ensures, l.requires.0.each l.loop-t.t i.loop-t-test.true)
+    (c.symbols-table.ensures, c.requires.0.each c.loop-t.t c.loop-t-test.true)
 
 pub bounds-weights-t : goal.bounds-weights-t
 bounds-weights-t c =
-    let i = c.before.before.before.before in
-    omega (arith, i.loop-t-test.true, i.requires.1)
+    omega (arith, c.loop-t-test.true, c.requires.1)
 
 pub loop-t-preserved : goal.loop-t-preserved
 loop-t-preserved c =
-    let s = c.before.before in
-    let l = s.before.before.before.before in
-    let a = l.args in (
+    let a = c.args in (
       omega arith,
-      over_set 0 (λ k. seen_symbol (num a.tones.now k)) l.loop-t.t (replicate 64 0) l.loop-t.symbols _ (omega arith) l.loop-t.invariant.1 s.symbol.ensures,
-      over_set 0 (λ k. heard_weight (num a.tones.now k) (num a.weights.now k)) l.loop-t.t (replicate 64 0) l.loop-t.heard _ (omega arith) l.loop-t.invariant.2 c.heard_weight.ensures,
+      over_set 0 (λ k. seen_symbol (num a.tones.now k)) c.loop-t.t (replicate 64 0) c.loop-t.symbols _ (omega arith) c.loop-t.invariant.1 c.symbol.ensures,
+      over_set 0 (λ k. heard_weight (num a.tones.now k) (num a.weights.now k)) c.loop-t.t (replicate 64 0) c.loop-t.heard _ (omega arith) c.loop-t.invariant.2 c.heard_weight.ensures,
     )
 
 pub returns : goal.returns
