@@ -21,7 +21,6 @@ use Rattle.band.specs.Frequencies.{spacing512, half512, tone512, hertz_of}
 use Rattle.band.specs.Locating.{tone_edge512, owns, owner_of, in_band, heard_as, located_of}
 use Rattle.band.specs.Laws.{is_heard, Tuning}
 use Rattle.band.specs.declared.Located.TheVariants as located
-use Rattle.band.specs.declared.Tuned.TheVariants as tuned
 use Rattle.band.proofs.Settings.{within, tone_0, tone_range}
 use Rattle.band.proofs.Formulas.{halved, half_small, mode_tone_small}
 use Rattle.band.proofs.Answers.{hertz_of_frequency}

@@ -1,32 +1,20 @@
 // A call of an entry and its line: what it is given, and the answer. A frequency is told as its whole number of 1/512 Hz and
 // as the bit pattern of the f64, which tells it apart from every other; a measurement and its distance as the pattern alone.
 use band::{Band, Located, Planned, Tuned};
-use libc::STDOUT_FILENO;
 use refusal::Refusal;
+use std::io;
 
-fn text(text: &[u8]) {
-    io::write_all(STDOUT_FILENO, text);
+fn refused(rt: &impl Print, refusal: Refusal) -> io::Result<()> {
+    let Refusal {
+        number,
+        place,
+        lead,
+    } = refusal;
+    print!(rt; ": refused {number} place {place} lead {lead}")
 }
 
-fn line_end() {
-    text(b"\n");
-}
-
-fn field(name: &[u8], number: u64) {
-    text(name);
-    io::print_decimal(STDOUT_FILENO, number);
-}
-
-fn refused(refusal: Refusal) {
-    field(b": refused ", refusal.number as u64);
-    field(b" place ", refusal.place as u64);
-    field(b" lead ", refusal.lead as u64);
-}
-
-fn settings(mode: u32, width: u32, centre: u32) {
-    field(b"mode ", mode as u64);
-    field(b" width ", width as u64);
-    field(b" centre ", centre as u64);
+fn settings(rt: &impl Print, mode: u32, width: u32, centre: u32) -> io::Result<()> {
+    print!(rt; "mode {mode} width {width} centre {centre}")
 }
 
 // Its whole part, or 0 if that is no u64.
@@ -39,58 +27,58 @@ fn whole_part(x: f64) -> u64 {
     0
 }
 
-fn pattern(x: f64) {
+fn pattern(rt: &impl Print, x: f64) -> io::Result<()> {
     if x == x {
-        io::print_hex(STDOUT_FILENO, f64::to_bits(x), 16);
+        let bits = f64::to_bits(x);
+        print!(rt; "{bits:016x}")
     } else {
-        text(b"NaN");
+        print!(rt; "NaN")
     }
 }
 
-fn hertz(name: &[u8], x: f64) {
-    field(name, whole_part(x * 512.0));
-    text(b"/512 ");
-    pattern(x);
+fn hertz(rt: &impl Print, name: &str, x: f64) -> io::Result<()> {
+    let n = whole_part(x * 512.0);
+    print!(rt; "{name}{n}/512 ")?;
+    pattern(rt, x)
 }
 
-pub fn band(mode: u32, width: u32, centre: u32) {
-    settings(mode, width, centre);
+pub fn band(rt: &impl Print, mode: u32, width: u32, centre: u32) -> io::Result<()> {
+    settings(rt, mode, width, centre)?;
     let planned = Band::new(mode, width, centre);
     match planned {
         Planned::Band(band) => {
-            hertz(b": edge ", band.edge);
-            hertz(b" spacing ", band.spacing);
+            hertz(rt, ": edge ", band.edge)?;
+            hertz(rt, " spacing ", band.spacing)?;
         }
-        Planned::Refused(refusal) => refused(refusal),
+        Planned::Refused(refusal) => refused(rt, refusal)?,
     }
-    line_end();
+    println!(rt; "")
 }
 
-pub fn frequency(mode: u32, width: u32, centre: u32, tone: u16) {
-    settings(mode, width, centre);
-    field(b" tone ", tone as u64);
+pub fn frequency(rt: &impl Print, mode: u32, width: u32, centre: u32, tone: u16) -> io::Result<()> {
+    settings(rt, mode, width, centre)?;
+    print!(rt; " tone {tone}")?;
     let tuned = band::frequency(mode, width, centre, tone);
     match tuned {
-        Tuned::Hertz(x) => hertz(b": ", x),
-        Tuned::Refused(refusal) => refused(refusal),
+        Tuned::Hertz(x) => hertz(rt, ": ", x)?,
+        Tuned::Refused(refusal) => refused(rt, refusal)?,
     }
-    line_end();
+    println!(rt; "")
 }
 
-pub fn locate(mode: u32, width: u32, centre: u32, hertz: f64) {
-    settings(mode, width, centre);
-    text(b" measured ");
-    pattern(hertz);
+pub fn locate(rt: &impl Print, mode: u32, width: u32, centre: u32, hertz: f64) -> io::Result<()> {
+    settings(rt, mode, width, centre)?;
+    print!(rt; " measured ")?;
+    pattern(rt, hertz)?;
     let located = band::locate(mode, width, centre, hertz);
     match located {
         Located::Heard(tone, off) => {
-            field(b": tone ", tone as u64);
-            text(b" off ");
-            pattern(off);
+            print!(rt; ": tone {tone} off ")?;
+            pattern(rt, off)?;
         }
-        Located::NotFinite => text(b": not finite"),
-        Located::OutsideBand => text(b": outside the band"),
-        Located::Refused(refusal) => refused(refusal),
+        Located::NotFinite => print!(rt; ": not finite")?,
+        Located::OutsideBand => print!(rt; ": outside the band")?,
+        Located::Refused(refusal) => refused(rt, refusal)?,
     }
-    line_end();
+    println!(rt; "")
 }

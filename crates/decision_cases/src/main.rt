@@ -5,7 +5,7 @@
 ghost use Rattle.std.specs.Prelude.{◌≤◌};
 
 use decision::Character;
-use libc::STDOUT_FILENO;
+use std::io;
 use text::{LINE_FEED, SPACE};
 
 // The signs of a code as it is sent; codes from 64 up have every sign turned.
@@ -39,42 +39,42 @@ fn missing(n: usize) -> [u8; 64]
     weights
 }
 
-fn print_number(n: u64) {
-    io::print_decimal(STDOUT_FILENO, n);
-    io::write_all(STDOUT_FILENO, b" ");
+fn print_number(rt: &impl Print, n: u64) -> io::Result<()> {
+    print!(rt; "{n} ")
 }
 
-fn print_signed(n: i32, end: u8) {
+fn print_signed(rt: &impl Print, n: i32, end: u8) -> io::Result<()> {
     let mut line = [0u8; 12];
     let count = text::put_signed_field(n, end, &mut line);
-    io::write_all(STDOUT_FILENO, &line[..count]);
+    rt.write_all(&line[..count])
 }
 
-fn print(c: Character) {
-    print_number(c.code as u64);
-    print_number(c.lead as u64);
-    print_number(c.word as u64);
-    print_signed(c.correlation, SPACE);
-    print_number(c.next as u64);
-    print_signed(c.next_correlation, LINE_FEED);
+fn print(rt: &impl Print, c: Character) -> io::Result<()> {
+    print_number(rt, c.code as u64)?;
+    print_number(rt, c.lead as u64)?;
+    print_number(rt, c.word as u64)?;
+    print_signed(rt, c.correlation, SPACE)?;
+    print_number(rt, c.next as u64)?;
+    print_signed(rt, c.next_correlation, LINE_FEED)
 }
 
-fn print_every_code() {
+fn print_every_code(rt: &impl Print) -> io::Result<()> {
     for code in 0..128 {
-        print(lead_finder::decide(sent(code), &[1; 64]));
+        print(rt, lead_finder::decide(sent(code), &[1; 64]))?;
     }
+    Ok(())
 }
 
-fn main() {
-    print_every_code();
-    print(lead_finder::decide(turned(0, 15), &[1; 64]));
-    print(lead_finder::decide(turned(0, 16), &[1; 64]));
-    print(lead_finder::decide(sent(0), &missing(31)));
-    print(lead_finder::decide(sent(0), &missing(32)));
-    print(lead_finder::decide(turned(0, 32), &[1; 64]));
-    print(lead_finder::decide(sent(0), &[0; 64]));
-    print(lead_finder::decide(turned(64, 15), &[1; 64]));
-    print(lead_finder::decide(sent(70), &[15; 64]));
-    print(lead_finder::decide(sent(70), &[255; 64]));
-    print(lead_finder::decide(sent(70), &[16; 64]));
+fn main(rt: HostRuntime) -> io::Result<()> {
+    print_every_code(&rt)?;
+    print(&rt, lead_finder::decide(turned(0, 15), &[1; 64]))?;
+    print(&rt, lead_finder::decide(turned(0, 16), &[1; 64]))?;
+    print(&rt, lead_finder::decide(sent(0), &missing(31)))?;
+    print(&rt, lead_finder::decide(sent(0), &missing(32)))?;
+    print(&rt, lead_finder::decide(turned(0, 32), &[1; 64]))?;
+    print(&rt, lead_finder::decide(sent(0), &[0; 64]))?;
+    print(&rt, lead_finder::decide(turned(64, 15), &[1; 64]))?;
+    print(&rt, lead_finder::decide(sent(70), &[15; 64]))?;
+    print(&rt, lead_finder::decide(sent(70), &[255; 64]))?;
+    print(&rt, lead_finder::decide(sent(70), &[16; 64]))
 }

@@ -1,39 +1,24 @@
 // The lines of the output: what each call answers.
-use libc::STDOUT_FILENO;
 use refusal::Refusal;
 use sender::{Handed, Sender, Sent};
+use std::io;
 
-fn text(text: &[u8]) {
-    io::write_all(STDOUT_FILENO, text);
+pub fn end(rt: &impl Print) -> io::Result<()> {
+    println!(rt; "")
 }
 
-fn number(number: u64) {
-    io::print_decimal(STDOUT_FILENO, number);
+pub fn depot(rt: &impl Print, depot: u32) -> io::Result<()> {
+    print!(rt; "depot {depot}:")
 }
 
-fn byte(byte: u8) {
-    number(byte as u64);
-}
-
-pub fn end() {
-    text(b"\n");
-}
-
-pub fn depot(depot: u32) {
-    text(b"depot ");
-    number(depot as u64);
-    text(b":");
-}
-
-fn refused(refusal: Refusal) {
-    text(b" refused ");
-    number(refusal.number as u64);
-    text(b" at ");
-    number(refusal.place as u64);
+fn refused(rt: &impl Print, refusal: Refusal) -> io::Result<()> {
+    let number = refusal.number;
+    let place = refusal.place;
+    print!(rt; " refused {number} at {place}")
 }
 
 // A block whose first code is its number, and whose other codes are its depot's number. The modes go round with the depots.
-pub fn hand_in(sender: Sender, depot: u32, number: u32) -> Sender {
+pub fn hand_in(rt: &impl Print, sender: Sender, depot: u32, number: u32) -> io::Result<Sender> {
     let other = (depot % 128) as u8;
     let codes = [
         (number % 128) as u8,
@@ -50,87 +35,83 @@ pub fn hand_in(sender: Sender, depot: u32, number: u32) -> Sender {
     let answer = after.answer;
     match answer {
         Handed::Taken => {
-            text(b" taken");
+            print!(rt; " taken")?;
         }
         Handed::Refused(refusal) => {
-            refused(refusal);
+            refused(rt, refusal)?;
         }
     }
-    after.sender
+    Ok(after.sender)
 }
 
 // What is sent is decoded, so that the line tells the block.
-pub fn send(sender: Sender) -> Sender {
+pub fn send(rt: &impl Print, sender: Sender) -> io::Result<Sender> {
     let mut tones = [0u16; 64];
     let after = sender.send(&mut tones);
     let answer = after.answer;
-    text(b"send:");
+    print!(rt; "send:")?;
     match answer {
         Sent::Block(depot, mode) => {
-            text(b" depot ");
-            number(depot as u64);
-            text(b" mode ");
-            number(mode as u64);
-            codes(mode, &tones);
+            print!(rt; " depot {depot} mode {mode}")?;
+            codes(rt, mode, &tones)?;
         }
         Sent::NoneWaiting => {
-            text(b" none waiting");
+            print!(rt; " none waiting")?;
         }
         Sent::Refused(refusal) => {
-            refused(refusal);
+            refused(rt, refusal)?;
         }
     }
-    end();
-    after.sender
+    end(rt)?;
+    Ok(after.sender)
 }
 
-fn codes(mode: u32, tones: &[u16]) {
+fn codes(rt: &impl Print, mode: u32, tones: &[u16]) -> io::Result<()> {
     let mut codes = [255u8; 8];
     block_decoder::decode_block(mode, 64, tones, &mut codes);
-    text(b" codes");
+    print!(rt; " codes")?;
     let mut q: usize = 0;
     while q < 8 {
-        if codes[q] < 128 {
-            text(b" ");
-            byte(codes[q]);
+        let code = codes[q];
+        if code < 128 {
+            print!(rt; " {code}")?;
         }
         q += 1;
     }
+    Ok(())
 }
 
 // An output one tone too short.
-pub fn short_send(sender: Sender) -> Sender {
+pub fn short_send(rt: &impl Print, sender: Sender) -> io::Result<Sender> {
     let mut tones = [0u16; 63];
     let after = sender.send(&mut tones);
     let answer = after.answer;
-    text(b"send into 63 tones:");
+    print!(rt; "send into 63 tones:")?;
     match answer {
         Sent::Refused(refusal) => {
-            refused(refusal);
+            refused(rt, refusal)?;
         }
         Sent::Block(_, _) => {
-            text(b" sent");
+            print!(rt; " sent")?;
         }
         Sent::NoneWaiting => {
-            text(b" none waiting");
+            print!(rt; " none waiting")?;
         }
     }
-    end();
-    after.sender
+    end(rt)?;
+    Ok(after.sender)
 }
 
 // How many blocks each depot has waiting, how many all together, and whose turn it is.
-pub fn counts(bytes: &[u8; 1532]) {
-    text(b"waiting:");
+pub fn counts(rt: &impl Print, bytes: &[u8; 1532]) -> io::Result<()> {
+    print!(rt; "waiting:")?;
     let mut d: usize = 0;
     while d < 30 {
-        text(b" ");
-        byte(bytes[1500 + d]);
+        let waiting = bytes[1500 + d];
+        print!(rt; " {waiting}")?;
         d += 1;
     }
-    text(b", in all ");
-    byte(bytes[1530]);
-    text(b", turn ");
-    byte(bytes[1531]);
-    end();
+    let all = bytes[1530];
+    let turn = bytes[1531];
+    println!(rt; ", in all {all}, turn {turn}")
 }

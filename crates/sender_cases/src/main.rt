@@ -2,51 +2,59 @@
 #![tactic(auto)]
 
 use sender::Sender;
+use std::io;
 
 mod lines;
 
-fn main() {
-    let full = every_depot(Sender::new(), 0, 9);
-    let stranger = handed_in(full, 30, 0, 1);
-    let begun = sent(stranger, 40);
-    let short = lines::short_send(begun);
-    let filled = every_depot(short, 9, 11);
-    sent(filled, 152);
+fn main(rt: HostRuntime) -> io::Result<()> {
+    let full = every_depot(&rt, Sender::new(), 0, 9)?;
+    let stranger = handed_in(&rt, full, 30, 0, 1)?;
+    let begun = sent(&rt, stranger, 40)?;
+    let short = lines::short_send(&rt, begun)?;
+    let filled = every_depot(&rt, short, 9, 11)?;
+    sent(&rt, filled, 152)?;
+    Ok(())
 }
 
 // Each depot in turn hands in its blocks with these numbers: a line for each depot.
-fn every_depot(sender: Sender, first: u32, end: u32) -> Sender {
+fn every_depot(rt: &impl Print, sender: Sender, first: u32, end: u32) -> io::Result<Sender> {
     let mut s = sender;
     let mut depot: u32 = 0;
     while depot < 30 {
-        s = handed_in(s, depot, first, end);
+        s = handed_in(rt, s, depot, first, end)?;
         depot += 1;
     }
-    lines::counts(&s.bytes);
-    s
+    lines::counts(rt, &s.bytes)?;
+    Ok(s)
 }
 
 // A depot hands in its blocks with the numbers from first up to end.
-fn handed_in(sender: Sender, depot: u32, first: u32, end: u32) -> Sender {
+fn handed_in(
+    rt: &impl Print,
+    sender: Sender,
+    depot: u32,
+    first: u32,
+    end: u32,
+) -> io::Result<Sender> {
     let mut s = sender;
     let mut number = first;
-    lines::depot(depot);
+    lines::depot(rt, depot)?;
     while number < end {
-        s = lines::hand_in(s, depot, number);
+        s = lines::hand_in(rt, s, depot, number)?;
         number += 1;
     }
-    lines::end();
-    s
+    lines::end(rt)?;
+    Ok(s)
 }
 
 // So many sends, a line for each.
-fn sent(sender: Sender, sends: u32) -> Sender {
+fn sent(rt: &impl Print, sender: Sender, sends: u32) -> io::Result<Sender> {
     let mut s = sender;
     let mut k: u32 = 0;
     while k < sends {
-        s = lines::send(s);
+        s = lines::send(rt, s)?;
         k += 1;
     }
-    lines::counts(&s.bytes);
-    s
+    lines::counts(rt, &s.bytes)?;
+    Ok(s)
 }

@@ -5,7 +5,7 @@ use mathlib.Core.List.{List}
 use Prim.Native.Nat.{ℕ, suc, ◌+◌, ◌-◌, ◌*◌, ◌<◌, ◌≤◌}
 use native.Mathlib.Numerals.{add-one}
 use native.Mathlib.Omega.{arith}
-use borrow.Author.Tests.{le-leb, lt-leb, lt-ltb, not-true, not-false}
+use borrow.Author.Tests.{le-leb, lt-leb, lt-ltb}
 use lib.Dec.{leb, ltb, eqb}
 use lib.ListN.{length, drop, get_or}
 use lib.Seq.{drop-cons, drop-length}
@@ -41,10 +41,10 @@ module _ (limit : ℕ) (begun : Bool) (v c : ℕ) where
     unfolding may_follow
     later_digit e = rw (is_digit_lem c low high, le-leb (10 * v + (c - 48)) limit fits, e)
 
-  pub told_follows : {r : Bool} → r ≡ may_follow limit begun v c → not r ≡ false → Follows limit begun v c
-  told_follows {r} e n = follows limit begun v c (sym e ∙ not-false r n)
+  pub told_follows : {r : Bool} → r ≡ may_follow limit begun v c → r ≡ true → Follows limit begun v c
+  told_follows {r} e n = follows limit begun v c (sym e ∙ n)
 
-  pub told_digit : {r : Bool} → r ≡ may_follow limit begun v c → not r ≡ false → (48 ≤ c) × (c ≤ 57)
+  pub told_digit : {r : Bool} → r ≡ may_follow limit begun v c → r ≡ true → (48 ≤ c) × (c ≤ 57)
   told_digit e n = digit_range c (told_follows e n).digit
 
 -- ---- a loop that scans digits
@@ -80,17 +80,17 @@ module _ (limit : ℕ) (bytes : List ℕ) where
       stops n v h (rw (e, drop-length bytes))
 
   module _ (n v : ℕ) (l : n < length bytes) (h : Scans n v) where
-    pub scans_stop : {r : Bool} → r ≡ may_follow limit (ltb 0 n) v (get_or bytes n 0) → not r ≡ true → record { count = n; value = v } ≡ whole
+    pub scans_stop : {r : Bool} → r ≡ may_follow limit (ltb 0 n) v (get_or bytes n 0) → r ≡ false → record { count = n; value = v } ≡ whole
     unfolding scan_from
     scans_stop {r} e t =
-        let no : may_follow limit (ltb 0 n) v (get_or bytes n 0) ≡ false = sym e ∙ not-true r t in
+        let no : may_follow limit (ltb 0 n) v (get_or bytes n 0) ≡ false = sym e ∙ t in
         stops n v h (rw (drop-cons bytes n 0 l, no))
 
-    pub scans_more : {r : Bool} → r ≡ may_follow limit (ltb 0 n) v (get_or bytes n 0) → not r ≡ false → Scans (n + 1) (10 * v + (get_or bytes n 0 - 48))
+    pub scans_more : {r : Bool} → r ≡ may_follow limit (ltb 0 n) v (get_or bytes n 0) → r ≡ true → Scans (n + 1) (10 * v + (get_or bytes n 0 - 48))
     unfolding scan_from after
     scans_more {r} e t =
         let next : Scanned = scan_from limit true (10 * v + (get_or bytes n 0 - 48)) (drop (suc n) bytes) in
-        let follows : may_follow limit (ltb 0 n) v (get_or bytes n 0) ≡ true = sym e ∙ not-false r t in
+        let follows : may_follow limit (ltb 0 n) v (get_or bytes n 0) ≡ true = sym e ∙ t in
         let step : scan_from limit (ltb 0 n) v (drop n bytes) ≡ one_more next = rw (drop-cons bytes n 0 l, follows) in
         let sum : n + suc next.count ≡ n + 1 + next.count = omega arith in
         let begun : ltb 0 (n + 1) ≡ true = lt-ltb 0 (n + 1) (omega arith) in

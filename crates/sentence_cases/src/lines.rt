@@ -1,9 +1,9 @@
 // A call and its line: what it is given, and the answer.
 ghost use Rattle.std.specs.Prelude.{◌≤◌};
 
-use libc::STDOUT_FILENO;
 use refusal::Refusal;
 use sentence::{Read, Written};
+use std::io;
 
 // No sentence is longer.
 const ROOM: usize = 128;
@@ -11,29 +11,17 @@ const ROOM: usize = 128;
 // Of the sentences with one digit just that of 18 fits.
 const SHORT: usize = 41;
 
-fn text(text: &[u8]) {
-    io::write_all(STDOUT_FILENO, text);
+fn refused(rt: &impl Print, refusal: Refusal) -> io::Result<()> {
+    let Refusal {
+        number,
+        place,
+        lead,
+    } = refusal;
+    print!(rt; "refused {number} place {place} lead {lead}")
 }
 
-fn field(name: &[u8], number: u64) {
-    text(name);
-    io::print_decimal(STDOUT_FILENO, number);
-}
-
-fn line_end() {
-    text(b"\n");
-}
-
-fn refused(refusal: Refusal) {
-    field(b"refused ", refusal.number as u64);
-    field(b" place ", refusal.place as u64);
-    field(b" lead ", refusal.lead as u64);
-}
-
-fn asked(number: u32, place: usize, lead: u32) {
-    field(b"write ", number as u64);
-    field(b" place ", place as u64);
-    field(b" lead ", lead as u64);
+fn asked(rt: &impl Print, number: u32, place: usize, lead: u32) -> io::Result<()> {
+    print!(rt; "write {number} place {place} lead {lead}")
 }
 
 fn at_most(n: usize, most: usize) -> usize
@@ -45,46 +33,49 @@ fn at_most(n: usize, most: usize) -> usize
     most
 }
 
-fn told(answer: Written, out: &[u8]) {
+fn told(rt: &impl Print, answer: Written, out: &[u8]) -> io::Result<()> {
     match answer {
         Written::Length(n) => {
             let end = at_most(n, out.len());
-            text(&out[..end]);
+            rt.write_all(&out[..end])?;
         }
-        Written::Refused(refusal) => refused(refusal),
+        Written::Refused(refusal) => refused(rt, refusal)?,
     }
-    line_end();
+    println!(rt; "")
 }
 
-pub fn write(number: u32, place: usize, lead: u32) {
-    asked(number, place, lead);
-    text(b": ");
+pub fn write(rt: &impl Print, number: u32, place: usize, lead: u32) -> io::Result<()> {
+    asked(rt, number, place, lead)?;
+    print!(rt; ": ")?;
     let mut out = [b'.'; ROOM];
     let answer = sentence::write_sentence(number, place, lead, &mut out);
-    told(answer, &out);
+    told(rt, answer, &out)
 }
 
-pub fn write_short(number: u32, place: usize, lead: u32) {
-    asked(number, place, lead);
-    field(b" into ", SHORT as u64);
-    text(b" bytes: ");
+pub fn write_short(rt: &impl Print, number: u32, place: usize, lead: u32) -> io::Result<()> {
+    asked(rt, number, place, lead)?;
+    let short = SHORT;
+    print!(rt; " into {short} bytes: ")?;
     let mut out = [b'.'; SHORT];
     let answer = sentence::write_sentence(number, place, lead, &mut out);
-    told(answer, &out);
+    told(rt, answer, &out)
 }
 
-pub fn read(bytes: &[u8]) {
-    text(b"read '");
-    text(bytes);
-    text(b"': ");
+pub fn read(rt: &impl Print, bytes: &[u8]) -> io::Result<()> {
+    print!(rt; "read '")?;
+    rt.write_all(bytes)?;
+    print!(rt; "': ")?;
     let answer = sentence::read_sentence(bytes);
     match answer {
         Read::Sentence(refusal) => {
-            field(b"number ", refusal.number as u64);
-            field(b" place ", refusal.place as u64);
-            field(b" lead ", refusal.lead as u64);
+            let Refusal {
+                number,
+                place,
+                lead,
+            } = refusal;
+            print!(rt; "number {number} place {place} lead {lead}")?;
         }
-        Read::Refused(refusal) => refused(refusal),
+        Read::Refused(refusal) => refused(rt, refusal)?,
     }
-    line_end();
+    println!(rt; "")
 }

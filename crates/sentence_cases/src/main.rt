@@ -2,66 +2,70 @@
 // sentences, nearly sentences, or none.
 #![tactic(auto)]
 
-use libc::STDIN_FILENO;
+use std::alloc::Global;
+use std::io;
+use std::io::Read;
 
 mod lines;
 
-fn main() {
-    every_number();
-    leads();
-    not_written();
-    read_input();
+fn main(rt: HostRuntime) -> io::Result<()> {
+    every_number(&rt)?;
+    leads(&rt)?;
+    not_written(&rt)?;
+    read_input(&rt, rt.alloc())
 }
 
 // From 0 to one more than document 02 ever names.
-fn every_number() {
+fn every_number(rt: &impl Print) -> io::Result<()> {
     let mut number: u32 = 0;
     while number < 25 {
-        lines::write(number, 0, 0);
-        lines::write(number, 7, 0);
-        lines::write(number, 1024, 0);
-        lines::write(number, 65535, 0);
+        lines::write(rt, number, 0, 0)?;
+        lines::write(rt, number, 7, 0)?;
+        lines::write(rt, number, 1024, 0)?;
+        lines::write(rt, number, 65535, 0)?;
         number += 1;
     }
+    Ok(())
 }
 
-fn leads() {
-    lines::write(10, 0, 2);
-    lines::write(10, 1023, 960);
-    lines::write(10, 65535, 959);
+fn leads(rt: &impl Print) -> io::Result<()> {
+    lines::write(rt, 10, 0, 2)?;
+    lines::write(rt, 10, 1023, 960)?;
+    lines::write(rt, 10, 65535, 959)
 }
 
 // Each limit by itself and, but for the last two, where the output is too short as well.
-fn not_written() {
-    lines::write(276, 0, 0);
-    lines::write(4294967295, 18446744073709551615, 4294967295);
-    lines::write(8, 65536, 0);
-    lines::write(10, 0, 961);
-    lines::write(8, 0, 2);
-    lines::write_short(276, 0, 0);
-    lines::write_short(8, 65536, 0);
-    lines::write_short(10, 0, 961);
-    lines::write_short(8, 0, 2);
-    lines::write_short(8, 0, 0);
-    lines::write_short(18, 9, 0);
-    lines::write_short(18, 10, 0);
+fn not_written(rt: &impl Print) -> io::Result<()> {
+    lines::write(rt, 276, 0, 0)?;
+    lines::write(rt, 4294967295, 18446744073709551615, 4294967295)?;
+    lines::write(rt, 8, 65536, 0)?;
+    lines::write(rt, 10, 0, 961)?;
+    lines::write(rt, 8, 0, 2)?;
+    lines::write_short(rt, 276, 0, 0)?;
+    lines::write_short(rt, 8, 65536, 0)?;
+    lines::write_short(rt, 10, 0, 961)?;
+    lines::write_short(rt, 8, 0, 2)?;
+    lines::write_short(rt, 8, 0, 0)?;
+    lines::write_short(rt, 18, 9, 0)?;
+    lines::write_short(rt, 18, 10, 0)
 }
 
 // Reads each line of the input as a sentence.
-fn read_input() {
-    let mut buffer = io::buffer();
-    let n = io::read_full(STDIN_FILENO, &mut buffer);
-    read_lines(&buffer[..n]);
+fn read_input(rt: &(impl Print + Input), alloc: Global) -> io::Result<()> {
+    let mut bytes = Vec::new(alloc);
+    rt.reader().read_to_end(&mut bytes)?;
+    read_lines(rt, &bytes)
 }
 
-fn read_lines(bytes: &[u8]) {
+fn read_lines(rt: &impl Print, bytes: &[u8]) -> io::Result<()> {
     let mut from: usize = 0;
     let mut i: usize = 0;
     while i < bytes.len() {
         if bytes[i] == b'\n' {
-            lines::read(&bytes[from..i]);
+            lines::read(rt, &bytes[from..i])?;
             from = i + 1;
         }
         i += 1;
     }
+    Ok(())
 }

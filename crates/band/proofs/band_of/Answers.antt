@@ -1,6 +1,5 @@
 use mathlib.Core.Path.{ap, ◌∙◌}
 use Prim.Native.Nat.{ℕ}
-use borrow.Author.Rules.{rules}
 use lib.Ieee.{binary64, div}
 use Rattle.refusal.proofs.Limits.{mode_tones}
 use Rattle.band.specs.Frequencies.{band_of}

@@ -1,5 +1,4 @@
 use mathlib.Core.Path.{sym, ◌∙◌}
-use borrow.Author.Rules.{rules}
 use Rattle.band.proofs.Settings.{tone_0}
 use Rattle.band.proofs.Formulas.{hertz_exact}
 use Rattle.band.proofs.Answers.{tuned_hertz, tuned_refused}

@@ -1,9 +1,7 @@
 use mathlib.Core.Path.{◌≡◌, sym, ap, ◌∙◌}
 use mathlib.Core.Bool.{true}
 use Prim.Native.Nat.{ℕ, ◌%◌, ◌^◌}
-use borrow.Author.Rules.{rules}
-use borrow.Author.Tests.{not-true, not-false}
-use lib.Ieee.{Float}
+use lib.Ieee.{Float, binary64, sub}
 use lib.Ieee.Scale.{finite}
 use Rattle.refusal.specs.Refused.{refused_at}
 use Rattle.band.specs.Limits.{fault}
@@ -11,30 +9,37 @@ use Rattle.band.specs.Locating.{in_band, heard_as, located_of, refusal_of, locat
 use Rattle.band.specs.Internal.{holds_in}
 use Rattle.band.specs.declared.Band.{Band}
 use Rattle.band.specs.declared.Located.{Located}
+use Rattle.band.specs.declared.Located.TheVariants as located
 use Rattle.band.proofs.Settings.{passed}
 use Rattle.band.proofs.Formulas.{tone_hertz_exact}
 use Rattle.band.proofs.Owners.{owner_owns}
 use Rattle.band.proofs.Locating.{held, from_first, owner_found, located_refused, located_not_finite, located_outside, located_heard, numbered}
 use Rattle.band.proofs.locate.Goals as goal
+use Rattle.band.proofs.locate.Goals.{Else-number-ne-NONE, Else-not-is_finite, After-holds, Else-not-holds}
 
 -- an answer, and the paper's number of it
-told : (b w c : ℕ) (x : Float) (r : Located) → r ≡ located_of b w c x → (r ≡ located_of b w c x) × (refusal_of r ≡ refused_at (locate_fault b w c x) 0)
-told b w c x r e = (e, ap refusal_of e ∙ numbered b w c x)
+told : (b w c : ℕ) (x : Float) (r : Located) → r ≡ located_of b w c x → refusal_of r ≡ refused_at (locate_fault b w c x) 0
+told b w c x r e = ap refusal_of e ∙ numbered b w c x
 
 pub returns-then-number-ne-NONE : goal.returns-then-number-ne-NONE
 returns-then-number-ne-NONE c =
-    let number = c.fault-number in record { answer = (told _ _ _ _ _ (rw (c.at.ensures, number.ensures) (located_refused _ _ _ _ (λ e. c.if-number-ne-NONE.true (number.ensures ∙ e))))).0; refusal = (told _ _ _ _ _ (rw (c.at.ensures, number.ensures) (located_refused _ _ _ _ (λ e. c.if-number-ne-NONE.true (number.ensures ∙ e))))).1 }
+    let number = c.fault-number in
+    let a = c.args in
+    let e : located.Refused c.at.result ≡ located_of a.mode a.width a.centre a.hertz =
+    rw (c.at.ensures, number.ensures) (located_refused _ _ _ _ (λ e. c.if-number-ne-NONE.true (number.ensures ∙ e))) in
+    record { answer = e; refusal = told _ _ _ _ _ e }
 
 -- what holds where the settings are right, then where the measurement is finite, then where it is in the band
 
-right : (c : goal.Else-number-ne-NONE) → let a = c.args in fault a.mode a.width a.centre 0 ≡ 0
+right : (c : Else-number-ne-NONE) → let a = c.args in fault a.mode a.width a.centre 0 ≡ 0
 right c = sym c.fault-number.ensures ∙ c.if-number-ne-NONE.false
 
 pub returns-then-not-is_finite : goal.returns-then-not-is_finite
 returns-then-not-is_finite c =
-    let test = c.is_finite in record { answer = (told _ _ _ _ _ (located_not_finite _ _ _ _ (right c.before.before) (sym test.ensures ∙ c.if-not-is_finite.true))).0; refusal = (told _ _ _ _ _ (located_not_finite _ _ _ _ (right c.before.before) (sym test.ensures ∙ c.if-not-is_finite.true))).1 }
+    let e = located_not_finite _ _ _ _ (right c.before.before) (sym c.is_finite.ensures ∙ c.if-not-is_finite.true) in
+    record { answer = e; refusal = told _ _ _ _ _ e }
 
-is_finite : (c : goal.Else-not-is_finite) → finite c.args.hertz ≡ true
+is_finite : (c : Else-not-is_finite) → finite c.args.hertz ≡ true
 is_finite c =
     let test = c.is_finite in
     sym test.ensures ∙ c.if-not-is_finite.false
@@ -42,7 +47,7 @@ is_finite c =
 pub band_of-band-requires : goal.band_of-band-requires
 band_of-band-requires c = right c.before.before
 
-in_band_by : (c : goal.After-holds) → let a = c.args in c.holds.result ≡ in_band a.width a.centre a.hertz
+in_band_by : (c : After-holds) → let a = c.args in c.holds.result ≡ in_band a.width a.centre a.hertz
 in_band_by c =
     let a = c.args in
     c.holds.ensures
@@ -52,9 +57,11 @@ in_band_by c =
 pub returns-then-not-holds : goal.returns-then-not-holds
 returns-then-not-holds c =
     let finite = c.before.before.before in
-    let outside = sym (in_band_by c.before) ∙ c.if-not-holds.true in record { answer = (told _ _ _ _ _ (located_outside _ _ _ _ (right finite.before.before) (is_finite finite) outside)).0; refusal = (told _ _ _ _ _ (located_outside _ _ _ _ (right finite.before.before) (is_finite finite) outside)).1 }
+    let outside = sym (in_band_by c.before) ∙ c.if-not-holds.true in
+    let e = located_outside _ _ _ _ (right finite.before.before) (is_finite finite) outside in
+    record { answer = e; refusal = told _ _ _ _ _ e }
 
-is_in_band : (c : goal.Else-not-holds) → let a = c.args in in_band a.width a.centre a.hertz ≡ true
+is_in_band : (c : Else-not-holds) → let a = c.args in in_band a.width a.centre a.hertz ≡ true
 is_in_band c = sym (in_band_by c.before) ∙ c.if-not-holds.false
 
 pub owner-tone-requires : goal.owner-tone-requires
@@ -70,11 +77,8 @@ returns c =
     let a = band.args in
     let settings = right band.before.before.before in
     let owner = owner_found _ _ _ _ settings c.owner-tone.result (rw band.band_of-band.ensures at c.owner-tone.ensures) in
-    let few = (owner_owns _ _ _ _ settings (is_in_band inside)).0 in record {
-      answer = (told _ _ _ _ _
-          (rw (c.hertz.ensures, band.band_of-band.ensures, owner, tone_hertz_exact _ _ _ settings _ few)
-          (located_heard _ _ _ _ settings (is_finite band.before) (is_in_band inside)))).0;
-      refusal = (told _ _ _ _ _
-          (rw (c.hertz.ensures, band.band_of-band.ensures, owner, tone_hertz_exact _ _ _ settings _ few)
-          (located_heard _ _ _ _ settings (is_finite band.before) (is_in_band inside)))).1;
-    }
+    let few = (owner_owns _ _ _ _ settings (is_in_band inside)).0 in
+    let e : located.Heard c.owner-tone.result (sub binary64 a.hertz c.hertz.result) ≡ located_of a.mode a.width a.centre a.hertz =
+    rw (c.hertz.ensures, band.band_of-band.ensures, owner, tone_hertz_exact _ _ _ settings _ few)
+    (located_heard _ _ _ _ settings (is_finite band.before) (is_in_band inside)) in
+    record { answer = e; refusal = told _ _ _ _ _ e }

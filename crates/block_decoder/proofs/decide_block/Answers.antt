@@ -1,5 +1,4 @@
 use native.Mathlib.Omega.{arith}
-use borrow.Author.Rules.{rules}
 use Rattle.weight_range.specs.Range.{throughout}
 use Rattle.block_decoder.proofs.decide_block.Goals as goal
 

@@ -1,5 +1,4 @@
 use native.Mathlib.Omega.{arith}
-use borrow.Author.Rules.{rules}
 use Rattle.weight_range.specs.Range.{throughout}
 use Rattle.block_decoder.specs.Decoding.{heard_block_into}
 use Rattle.block_decoder.proofs.decode_block.Goals as goal

@@ -1,5 +1,4 @@
 use native.Mathlib.Omega.{arith}
-use borrow.Author.Rules.{rules}
 use Rattle.block_decoder.specs.Decoding.{heard_block_into}
 use Rattle.block_decoder.proofs.decode_weighted.Goals as goal
 

@@ -1,4 +1,3 @@
-use borrow.Author.Rules.{rules}
 use borrow.Author.Tests.{lt-ltb, le-ltb}
 use Rattle.block_decoder.specs.Internal.{judgement_in}
 use Rattle.block_decoder.proofs.judge.Goals as goal

@@ -1,4 +1,3 @@
-use borrow.Author.Rules.{rules}
 use Rattle.block_decoder.specs.Decoding.{refused}
 use Rattle.block_decoder.proofs.refused.Goals as goal
 

@@ -1,11 +1,9 @@
 use mathlib.Core.Path.{◌≡◌, ◌∙◌}
-use Prim.Native.Nat.{◌-◌, ◌≤◌}
 use native.Mathlib.Omega.{arith}
 use lib.Dec.{lit≤}
 use mathlib.Core.Bool.{false}
 use lib.ListN.{replicate}
 use borrow.Author.Rules.{rules}
-use Rattle.lists.specs.Lists.{tab, over}
 use Rattle.lists.proofs.Fronts.{over_start, over_set, over_tab_whole}
 use Rattle.characters.specs.Internal.{table_sign}
 use Rattle.characters.proofs.signs.Goals as goal

@@ -1,19 +1,16 @@
 use mathlib.Core.Path.{◌≡◌, refl, sym, ◌∙◌, ap}
-use Prim.Native.Nat.{ℕ, ◌≤◌, ◌-◌, ◌^◌}
+use Prim.Native.Nat.{ℕ, ◌^◌}
 use lib.Pow.{pow_mono}
 use native.Mathlib.Omega.{arith}
-use lib.Dec.{ltb}
-use lib.ListN.{length, length-set}
+use lib.ListN.{length-set}
 use borrow.Author.Rules.{rules}
 use borrow.Author.Tests.{lt-ltb, le-ltb}
-use Rattle.lists.specs.Lists.{tab, over}
-use Rattle.lists.specs.Places.{scan}
 use Rattle.lists.proofs.Fronts.{over_start, over_set}
 use Rattle.lists.proofs.Places.{scan_start, scan_hit, scan_miss, scan_end}
 use Rattle.refusal.proofs.Limits.{mode_range, mode_tones}
 use Rattle.chain.proofs.Values.{mode_values}
 use Rattle.block_decoder.specs.Decoding.{characters_of, lead_in, padded, heard_into}
-use Rattle.block_decoder.specs.Internal.{code_in, first_unclear_in}
+use Rattle.block_decoder.specs.Internal.{first_unclear_in}
 use Rattle.block_decoder.specs.declared.Decoded.TheVariants.{Refused}
 use Rattle.checked_block.specs.Checked.{tones_below}
 use Rattle.checked_block.specs.Internal.{weights_below}
@@ -31,15 +28,11 @@ weights-weights-requires c = c.requires.1
 -- the decisions are those on the tones of the mode
 found : (d : After-decide-characters) → let a = d.args in d.decide-characters.result ≡ padded (characters_of a.mode (tones_below (2 ^ a.mode) a.tones.now))
 found d =
-    let v = d.before.before.before.before in
-    let w = v.before in
-    let p = w.before.before.before in
-    let s = p.before.before.before.before in
-    let a = s.args in
-    let mode = s.requires.0 in
-    same_found (2 ^ a.mode) a.tones.now (omega (arith, pow_mono {i = a.mode} {j = 8} (mode_range a.mode mode).1)) s.requires.1 a.mode mode _ (v.values-values.ensures ∙ mode_values a.mode mode) _ _ _
-    p.put_symbols.ensures
-    (w.weights-weights.ensures ∙ ap (λ (limit : ℕ). weights_below limit a.tones.now) (w.tone_count.ensures ∙ mode_tones a.mode mode))
+    let a = d.args in
+    let mode = d.requires.0 in
+    same_found (2 ^ a.mode) a.tones.now (omega (arith, pow_mono {i = a.mode} {j = 8} (mode_range a.mode mode).1)) d.requires.1 a.mode mode _ (d.values-values.ensures ∙ mode_values a.mode mode) _ _ _
+    d.put_symbols.ensures
+    (d.weights-weights.ensures ∙ ap (λ (limit : ℕ). weights_below limit a.tones.now) (d.tone_count.ensures ∙ mode_tones a.mode mode))
     d.decide-characters.ensures
 
 pub loop-q-init : goal.loop-q-init
@@ -49,16 +42,13 @@ loop-q-init c = ((mode_range _ c.requires.0).1, search rules, scan_start _ _)
 pub returns-then-character-least_lead : goal.returns-then-character-least_lead
 unfolding heard_into
 returns-then-character-least_lead c =
-    let l = c.before.before.before.before.before in
-    let d = l.before in
-    let a = d.args in
+    let a = c.args in
     let inside = c.loop-q-test.true in
-    let here = sym l.loop-q.invariant.2 ∙ scan_hit _ l.loop-q.q _ inside (lt-ltb (lead_in d.decide-characters.result l.loop-q.q) a.least_lead c.if-character-least_lead.true) in record { answer = ap Refused c.unclear.ensures ∙ sym (unclear_told a.mode a.least_lead _ d.decide-characters.result (found (goal.at.returns-then-character-least_lead c).After-decide-characters) l.loop-q.q inside here); output = refl }
+    let here = sym c.loop-q.invariant.2 ∙ scan_hit _ c.loop-q.q _ inside (lt-ltb (lead_in c.decide-characters.result c.loop-q.q) a.least_lead c.if-character-least_lead.true) in record { answer = ap Refused c.unclear.ensures ∙ sym (unclear_told a.mode a.least_lead _ c.decide-characters.result (found (goal.at.returns-then-character-least_lead c).After-decide-characters) c.loop-q.q inside here); output = refl }
 
 pub loop-q-preserved : goal.loop-q-preserved
 loop-q-preserved c =
-    let l = c.before.before.before.before in
-    (l.loop-q.invariant.0, search rules, scan_miss _ l.loop-q.q _ c.loop-q-test.true (le-ltb _ _ c.if-character-least_lead.false) ∙ l.loop-q.invariant.2)
+    (c.loop-q.invariant.0, search rules, scan_miss _ c.loop-q.q _ c.loop-q-test.true (le-ltb _ _ c.if-character-least_lead.false) ∙ c.loop-q.invariant.2)
 
 pub loop-written-init : goal.loop-written-init
 loop-written-init c = (c.loop-q.invariant.0, search rules, refl, over_start _ _)
@@ -73,18 +63,6 @@ loop-written-preserved c =
 
 pub returns : goal.returns
 returns c =
-    let w = c.before in
-    let l = w.before.before in
-    let d = l.before in
-    let a = d.args in
-    let done : w.loop-written.written ≡ a.mode = omega arith in
-    let clear : first_unclear_in a.mode a.least_lead d.decide-characters.result ≡ a.mode = sym l.loop-q.invariant.2 ∙ scan_end _ l.loop-q.q _ w.loop-q-test.false ∙ omega arith in record {
-      answer = (rw done (
-        sym (clear_told a.mode a.least_lead _ d.decide-characters.result (found (goal.at.returns c).After-decide-characters) clear),
-        text_put a.mode a.least_lead _ d.decide-characters.result (found (goal.at.returns c).After-decide-characters) a.codes.now w.loop-written.codes (rw done at w.loop-written.invariant.3),
-      )).0;
-      output = (rw done (
-        sym (clear_told a.mode a.least_lead _ d.decide-characters.result (found (goal.at.returns c).After-decide-characters) clear),
-        text_put a.mode a.least_lead _ d.decide-characters.result (found (goal.at.returns c).After-decide-characters) a.codes.now w.loop-written.codes (rw done at w.loop-written.invariant.3),
-      )).1;
-    }
+    let a = c.args in
+    let done : c.loop-written.written ≡ a.mode = omega arith in
+    let clear : first_unclear_in a.mode a.least_lead c.decide-characters.result ≡ a.mode = sym c.loop-q.invariant.2 ∙ scan_end _ c.loop-q.q _ c.loop-q-test.false ∙ omega arith in rw done record { answer = sym (clear_told a.mode a.least_lead _ c.decide-characters.result (found (goal.at.returns c).After-decide-characters) clear); output = text_put a.mode a.least_lead _ c.decide-characters.result (found (goal.at.returns c).After-decide-characters) a.codes.now c.loop-written.codes (rw done at c.loop-written.invariant.3) }

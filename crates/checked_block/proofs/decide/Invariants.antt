@@ -1,24 +1,11 @@
-use mathlib.Core.Path.{◌≡◌, refl, sym, ◌∙◌, ap}
-use Prim.Native.Nat.{ℕ, ◌≤◌, ◌-◌, ◌^◌}
-use lib.Pow.{pow_mono}
-use native.Mathlib.Omega.{arith}
+use mathlib.Core.Path.{◌≡◌}
+use Prim.Native.Nat.{◌≤◌, ◌-◌}
 use lib.Dec.{ltb}
-use lib.ListN.{length, length-set}
-use borrow.Author.Rules.{rules}
-use borrow.Author.Tests.{lt-ltb, le-ltb}
+use lib.ListN.{length}
 use Rattle.lists.specs.Lists.{tab, over}
 use Rattle.lists.specs.Places.{scan}
-use Rattle.lists.proofs.Fronts.{over_start, over_set}
-use Rattle.lists.proofs.Places.{scan_start, scan_hit, scan_miss, scan_end}
-use Rattle.refusal.proofs.Limits.{mode_range, mode_tones}
-use Rattle.chain.proofs.Values.{mode_values}
-use Rattle.block_decoder.specs.Decoding.{characters_of, lead_in, padded, heard_into}
+use Rattle.block_decoder.specs.Decoding.{lead_in}
 use Rattle.block_decoder.specs.Internal.{code_in, first_unclear_in}
-use Rattle.block_decoder.specs.declared.Decoded.TheVariants.{Refused}
-use Rattle.checked_block.specs.Checked.{tones_below}
-use Rattle.checked_block.specs.Internal.{weights_below}
-use Rattle.checked_block.proofs.CheckedCounts.{symbols_none, same_found}
-use Rattle.checked_block.proofs.Decisions.{unclear_told, clear_told, text_put}
 use Rattle.checked_block.proofs.decide.Given as goal
 
 abbrev pub invariant-loop-q : goal.invariant-loop-q

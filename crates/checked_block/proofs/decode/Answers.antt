@@ -1,8 +1,6 @@
 use mathlib.Core.Path.{◌≡◌, sym, ◌∙◌}
 use mathlib.Core.Bool.{true}
 use native.Mathlib.Omega.{arith}
-use borrow.Author.Rules.{rules}
-use borrow.Author.Tests.{not-true, not-false}
 use Rattle.refusal.specs.Checks.{is_mode, is_lead}
 use Rattle.weight_range.proofs.Ranges.{has_throughout}
 use Rattle.block_decoder.proofs.DecodeCases.{refuses_mode, refuses_lead, refuses_count, refuses_room}
@@ -13,7 +11,7 @@ use Rattle.checked_block.proofs.decode.Goals.{Else-not-is_mode, Else-not-is_lead
 
 pub returns-then-not-is_mode : goal.returns-then-not-is_mode
 returns-then-not-is_mode c =
-    let m = c.before.before in record { answer = (refusal_told_lem _ _ _ _ 1 0 c.at.ensures (refuses_mode _ _ _ _ _ _ (sym m.is_mode.ensures ∙ c.if-not-is_mode.true))).0; output = (refusal_told_lem _ _ _ _ 1 0 c.at.ensures (refuses_mode _ _ _ _ _ _ (sym m.is_mode.ensures ∙ c.if-not-is_mode.true))).1 }
+    let both = refusal_told_lem _ _ _ _ 1 0 c.at.ensures (refuses_mode _ _ _ _ _ _ (sym c.is_mode.ensures ∙ c.if-not-is_mode.true)) in record { answer = both.0; output = both.1 }
 
 -- the settings, once their checks have passed
 mode_known : (c : Else-not-is_mode) → is_mode c.args.mode ≡ true
@@ -24,35 +22,22 @@ lead_known c = sym c.is_lead.ensures ∙ c.if-not-is_lead.false
 
 pub returns-then-not-is_lead : goal.returns-then-not-is_lead
 returns-then-not-is_lead c =
-    let l = c.before.before in record { answer = (refusal_told_lem _ _ _ _ 2 0 c.at-then-not-is_lead.ensures (refuses_lead _ _ _ _ _ _ (mode_known (goal.at.returns-then-not-is_lead c).Else-not-is_mode) (sym l.is_lead.ensures ∙ c.if-not-is_lead.true))).0; output = (refusal_told_lem _ _ _ _ 2 0 c.at-then-not-is_lead.ensures (refuses_lead _ _ _ _ _ _ (mode_known (goal.at.returns-then-not-is_lead c).Else-not-is_mode) (sym l.is_lead.ensures ∙ c.if-not-is_lead.true))).1 }
+    let both = refusal_told_lem _ _ _ _ 2 0 c.at-then-not-is_lead.ensures (refuses_lead _ _ _ _ _ _ (mode_known (goal.at.returns-then-not-is_lead c).Else-not-is_mode) (sym c.is_lead.ensures ∙ c.if-not-is_lead.true)) in record { answer = both.0; output = both.1 }
 
 pub returns-then-tones-ne64 : goal.returns-then-tones-ne64
 returns-then-tones-ne64 c =
-    let l = c.before.before in record {
-      answer = (refusal_told_lem _ _ _ _ 7 0 c.at-then-tones-ne64.ensures
-          (refuses_count _ _ _ _ _ _ (mode_known (goal.at.returns-then-tones-ne64 c).Else-not-is_mode) (lead_known (goal.at.returns-then-tones-ne64 c).Else-not-is_lead) (λ e. c.if-tones-ne64.true (sym (below_count _ _) ∙ e)))).0;
-      output = (refusal_told_lem _ _ _ _ 7 0 c.at-then-tones-ne64.ensures
-          (refuses_count _ _ _ _ _ _ (mode_known (goal.at.returns-then-tones-ne64 c).Else-not-is_mode) (lead_known (goal.at.returns-then-tones-ne64 c).Else-not-is_lead) (λ e. c.if-tones-ne64.true (sym (below_count _ _) ∙ e)))).1;
-    }
+    let both = refusal_told_lem _ _ _ _ 7 0 c.at-then-tones-ne64.ensures
+    (refuses_count _ _ _ _ _ _ (mode_known (goal.at.returns-then-tones-ne64 c).Else-not-is_mode) (lead_known (goal.at.returns-then-tones-ne64 c).Else-not-is_lead) (λ e. c.if-tones-ne64.true (sym (below_count _ _) ∙ e))) in record { answer = both.0; output = both.1 }
 
 pub returns-then-codes-mode : goal.returns-then-codes-mode
 returns-then-codes-mode c =
-    let n = c.before.before in
-    let l = n.before in record {
-      answer = (refusal_told_lem _ _ _ _ 9 0 c.at-then-codes-mode.ensures
-          (refuses_room _ _ _ _ _ _ (mode_known (goal.at.returns-then-codes-mode c).Else-not-is_mode) (lead_known (goal.at.returns-then-codes-mode c).Else-not-is_lead) (below_count _ _ ∙ n.if-tones-ne64.false) (has_throughout 1 1 (omega arith)).count c.if-codes-mode.true)).0;
-      output = (refusal_told_lem _ _ _ _ 9 0 c.at-then-codes-mode.ensures
-          (refuses_room _ _ _ _ _ _ (mode_known (goal.at.returns-then-codes-mode c).Else-not-is_mode) (lead_known (goal.at.returns-then-codes-mode c).Else-not-is_lead) (below_count _ _ ∙ n.if-tones-ne64.false) (has_throughout 1 1 (omega arith)).count c.if-codes-mode.true)).1;
-    }
+    let both = refusal_told_lem _ _ _ _ 9 0 c.at-then-codes-mode.ensures
+    (refuses_room _ _ _ _ _ _ (mode_known (goal.at.returns-then-codes-mode c).Else-not-is_mode) (lead_known (goal.at.returns-then-codes-mode c).Else-not-is_lead) (below_count _ _ ∙ c.if-tones-ne64.false) (has_throughout 1 1 (omega arith)).count c.if-codes-mode.true) in record { answer = both.0; output = both.1 }
 
 pub decide-requires : goal.decide-requires
 decide-requires c =
-    let n = c.before.before in
-    (mode_known (goal.at.decide-requires c).Else-not-is_mode, n.if-tones-ne64.false, c.if-codes-mode.false)
+    (mode_known (goal.at.decide-requires c).Else-not-is_mode, c.if-tones-ne64.false, c.if-codes-mode.false)
 
 pub returns : goal.returns
 returns c =
-    let d = c.before.before in
-    let r = d.before.before in
-    let n = r.before in
-    let l = n.before in record { answer = (decision_told _ _ _ _ (record { mode = mode_known (goal.at.returns c).Else-not-is_mode; lead = lead_known (goal.at.returns c).Else-not-is_lead }) n.if-tones-ne64.false r.if-codes-mode.false d.decide.ensures.answer d.decide.ensures.output).0; output = (decision_told _ _ _ _ (record { mode = mode_known (goal.at.returns c).Else-not-is_mode; lead = lead_known (goal.at.returns c).Else-not-is_lead }) n.if-tones-ne64.false r.if-codes-mode.false d.decide.ensures.answer d.decide.ensures.output).1 }
+    let both = decision_told _ _ _ _ (record { mode = mode_known (goal.at.returns c).Else-not-is_mode; lead = lead_known (goal.at.returns c).Else-not-is_lead }) c.if-tones-ne64.false c.if-codes-mode.false c.decide.ensures.answer c.decide.ensures.output in record { answer = both.0; output = both.1 }

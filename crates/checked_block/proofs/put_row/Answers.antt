@@ -1,9 +1,8 @@
-use mathlib.Core.Path.{◌≡◌, sym, ◌∙◌}
-use Prim.Native.Nat.{◌+◌, ◌≤◌, ◌-◌}
+use mathlib.Core.Path.{◌≡◌}
+use Prim.Native.Nat.{◌+◌}
 use native.Mathlib.Omega.{arith}
 use lib.ListN.{length}
 use borrow.Author.Rules.{rules}
-use Rattle.checked_block.specs.Internal.{symbols_to}
 use Rattle.checked_block.proofs.CheckedCounts.{symbols_length, put_symbol}
 use Rattle.checked_block.proofs.put_row.Goals as goal
 use Rattle.checked_block.proofs.put_row.Goals.{Start, At-loop-t}
@@ -24,8 +23,7 @@ bounds-symbols-t c = omega (arith, length_kept (goal.at.bounds-symbols-t c).At-l
 pub loop-t-preserved : goal.loop-t-preserved
 loop-t-preserved c =
     let l = c.loop-t in
-    let s = c.before.before.before.before in
-    (search rules, search rules, put_symbol s.args.tones.now l.t l.symbols s.args.table.now (omega (arith, s.requires.1)) l.invariant.2 s.requires.0)
+    (search rules, search rules, put_symbol c.args.tones.now l.t l.symbols c.args.table.now (omega (arith, c.requires.1)) l.invariant.2 c.requires.0)
 
 pub returns : goal.returns
 returns c =

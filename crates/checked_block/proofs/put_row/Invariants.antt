@@ -1,10 +1,6 @@
-use mathlib.Core.Path.{◌≡◌, sym, ◌∙◌}
-use Prim.Native.Nat.{◌+◌, ◌≤◌, ◌-◌}
-use native.Mathlib.Omega.{arith}
-use lib.ListN.{length}
-use borrow.Author.Rules.{rules}
+use mathlib.Core.Path.{◌≡◌}
+use Prim.Native.Nat.{◌≤◌, ◌-◌}
 use Rattle.checked_block.specs.Internal.{symbols_to}
-use Rattle.checked_block.proofs.CheckedCounts.{symbols_length, put_symbol}
 use Rattle.checked_block.proofs.put_row.Given as goal
 
 abbrev pub invariant-loop-t : goal.invariant-loop-t

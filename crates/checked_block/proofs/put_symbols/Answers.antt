@@ -1,10 +1,6 @@
-use mathlib.Core.Path.{◌≡◌, sym, ◌∙◌, ap}
-use Prim.Native.Nat.{◌%◌, ◌≤◌, ◌-◌}
+use mathlib.Core.Path.{◌≡◌}
 use native.Mathlib.Omega.{arith}
-use lib.ListN.{length}
 use borrow.Author.Rules.{rules}
-use Rattle.checked_block.specs.Internal.{symbols_to}
-use Rattle.checked_block.proofs.CheckedCounts.{symbols_length}
 use Rattle.checked_block.proofs.put_symbols.Goals as goal
 
 pub loop-t-init : goal.loop-t-init
@@ -12,13 +8,11 @@ loop-t-init c = (omega arith, search rules, c.requires.1)
 
 pub put_row-requires : goal.put_row-requires
 put_row-requires c =
-    let l = c.before.before.before in
-    (l.symbols-table.ensures, omega (arith, l.loop-t.invariant.0, c.loop-t-test.true), l.requires.0, l.loop-t.invariant.2)
+    (c.symbols-table.ensures, omega (arith, c.loop-t.invariant.0, c.loop-t-test.true), c.requires.0, c.loop-t.invariant.2)
 
 pub loop-t-preserved : goal.loop-t-preserved
 loop-t-preserved c =
-    let l = c.before.before.before.before.before.before in
-    (omega (arith, l.loop-t.invariant.0), omega (arith, l.loop-t.invariant.0, c.loop-t-test.true), c.put_row.ensures)
+    (omega (arith, c.loop-t.invariant.0), omega (arith, c.loop-t.invariant.0, c.loop-t-test.true), c.put_row.ensures)
 
 pub returns : goal.returns
 returns c =

@@ -1,10 +1,6 @@
-use mathlib.Core.Path.{◌≡◌, sym, ◌∙◌, ap}
+use mathlib.Core.Path.{◌≡◌}
 use Prim.Native.Nat.{◌%◌, ◌≤◌, ◌-◌}
-use native.Mathlib.Omega.{arith}
-use lib.ListN.{length}
-use borrow.Author.Rules.{rules}
 use Rattle.checked_block.specs.Internal.{symbols_to}
-use Rattle.checked_block.proofs.CheckedCounts.{symbols_length}
 use Rattle.checked_block.proofs.put_symbols.Given as goal
 
 abbrev pub invariant-loop-t : goal.invariant-loop-t

@@ -23,12 +23,11 @@ first_zero-zero-requires c = within_codes (goal.at.first_zero-zero-requires c).A
 
 pub returns-then-zero-n : goal.returns-then-zero-n
 returns-then-zero-n c =
-    let z = c.before.before in
-    ap Refused (c.at.ensures ∙ ap (refused_at 11) z.first_zero-zero.ensures)
-    ∙ sym (refuses_zero _ _ _ _ z.text_end_lem.ensures (rw z.first_zero-zero.ensures at c.if-zero-n.true))
+    ap Refused (c.at.ensures ∙ ap (refused_at 11) c.first_zero-zero.ensures)
+    ∙ sym (refuses_zero _ _ _ _ c.text_end_lem.ensures (rw c.first_zero-zero.ensures at c.if-zero-n.true))
 
 -- no 0 stands before the end, once that is checked
-no_zero_known : (c : Else-zero-n) → let t = c.before.before in t.text_end_lem.result ≤ first (is_zero t.args.codes.now) t.text_end_lem.result
+no_zero_known : (c : Else-zero-n) → c.text_end_lem.result ≤ first (is_zero c.args.codes.now) c.text_end_lem.result
 no_zero_known c = rw c.first_zero-zero.ensures at c.if-zero-n.false
 
 pub overflow_sub-codes : goal.overflow_sub-codes
@@ -36,23 +35,18 @@ overflow_sub-codes c = within_codes (goal.at.overflow_sub-codes c).After-text_en
 
 pub returns-then-mode-codes : goal.returns-then-mode-codes
 returns-then-mode-codes c =
-    let l = c.before.before in
-    let t = l.before.before in
-    let a = t.args in
+    let a = c.args in
     ap Refused c.at-then-mode-codes.ensures
-    ∙ sym (refuses_filling a.limit a.mode a.codes.now t.text_end_lem.result t.text_end_lem.ensures (no_zero_known (goal.at.returns-then-mode-codes c).Else-zero-n) (omega (arith, c.if-mode-codes.true)))
+    ∙ sym (refuses_filling a.limit a.mode a.codes.now c.text_end_lem.result c.text_end_lem.ensures (no_zero_known (goal.at.returns-then-mode-codes c).Else-zero-n) (omega (arith, c.if-mode-codes.true)))
 
 pub returns-then-limit-n : goal.returns-then-limit-n
 returns-then-limit-n c =
-    let f = c.before.before in
-    let l = f.before in
-    ap Refused c.at-then-limit-n.ensures ∙ sym (refuses_long _ _ _ _ l.text_end_lem.ensures (no_zero_known (goal.at.returns-then-limit-n c).Else-zero-n) f.if-mode-codes.false c.if-limit-n.true)
+    ap Refused c.at-then-limit-n.ensures ∙ sym (refuses_long _ _ _ _ c.text_end_lem.ensures (no_zero_known (goal.at.returns-then-limit-n c).Else-zero-n) c.if-mode-codes.false c.if-limit-n.true)
 
 pub returns : goal.returns
 returns c =
-    let l = c.before.before in
     sym (delivers _ _ _ _ record {
-      end = l.text_end_lem.ensures;
+      end = c.text_end_lem.ensures;
       no_zero = no_zero_known (goal.at.returns c).Else-zero-n;
       filling = c.if-mode-codes.false;
       fits = c.if-limit-n.false;

@@ -1,10 +1,9 @@
 use mathlib.Core.Path.{◌≡◌, ◌∙◌}
-use Prim.Native.Nat.{◌-◌, ◌≤◌}
 use native.Mathlib.Omega.{arith}
 use lib.Dec.{lit≤}
 use lib.ListN.{replicate}
 use borrow.Author.Rules.{rules}
-use Rattle.lists.specs.Lists.{tab, num, over}
+use Rattle.lists.specs.Lists.{num}
 use Rattle.lists.proofs.Fronts.{over_start, over_set, over_tab_whole}
 use Rattle.block_decoder.specs.Decoding.{heard_weight}
 use Rattle.block_decoder.specs.Internal.{seen_symbol, seen_to, heard_weights}
@@ -19,23 +18,18 @@ bounds-tones-t c = omega (arith, c.loop-t-test.true, c.requires.0.count)
 
 pub symbol-requires : goal.symbol-requires
 symbol-requires c =
-    let i = c.before.before in
-    let l = i.before in
-    (l.symbols-table.ensures, l.requires.0.each l.loop-t.t i.loop-t-test.true)
+    (c.symbols-table.ensures, c.requires.0.each c.loop-t.t c.loop-t-test.true)
 
 pub bounds-weights-t : goal.bounds-weights-t
 bounds-weights-t c =
-    let i = c.before.before.before.before in
-    omega (arith, i.loop-t-test.true, i.requires.1)
+    omega (arith, c.loop-t-test.true, c.requires.1)
 
 pub loop-t-preserved : goal.loop-t-preserved
 loop-t-preserved c =
-    let s = c.before.before in
-    let l = s.before.before.before.before in
-    let a = l.args in (
+    let a = c.args in (
       omega arith,
-      over_set 0 (λ k. seen_symbol (num a.tones.now k)) l.loop-t.t (replicate 64 0) l.loop-t.symbols _ (omega arith) l.loop-t.invariant.1 s.symbol.ensures,
-      over_set 0 (λ k. heard_weight (num a.tones.now k) (num a.weights.now k)) l.loop-t.t (replicate 64 0) l.loop-t.heard _ (omega arith) l.loop-t.invariant.2 c.heard_weight.ensures,
+      over_set 0 (λ k. seen_symbol (num a.tones.now k)) c.loop-t.t (replicate 64 0) c.loop-t.symbols _ (omega arith) c.loop-t.invariant.1 c.symbol.ensures,
+      over_set 0 (λ k. heard_weight (num a.tones.now k) (num a.weights.now k)) c.loop-t.t (replicate 64 0) c.loop-t.heard _ (omega arith) c.loop-t.invariant.2 c.heard_weight.ensures,
     )
 
 pub returns : goal.returns

@@ -1,14 +1,9 @@
-use mathlib.Core.Path.{◌≡◌, ◌∙◌}
+use mathlib.Core.Path.{◌≡◌}
 use Prim.Native.Nat.{◌-◌, ◌≤◌}
-use native.Mathlib.Omega.{arith}
-use lib.Dec.{lit≤}
 use lib.ListN.{replicate}
-use borrow.Author.Rules.{rules}
 use Rattle.lists.specs.Lists.{tab, num, over}
-use Rattle.lists.proofs.Fronts.{over_start, over_set, over_tab_whole}
 use Rattle.block_decoder.specs.Decoding.{heard_weight}
-use Rattle.block_decoder.specs.Internal.{seen_symbol, seen_to, heard_weights}
-use Rattle.energy.specs.Internal.{heard_of}
+use Rattle.block_decoder.specs.Internal.{seen_symbol}
 use Rattle.energy.proofs.hear.Given as goal
 
 abbrev pub invariant-loop-t : goal.invariant-loop-t

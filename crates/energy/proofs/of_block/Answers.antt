@@ -1,4 +1,3 @@
-use borrow.Author.Rules.{rules}
 use Rattle.weight_range.specs.Range.{throughout}
 use Rattle.energy.proofs.of_block.Goals as goal
 

@@ -3,8 +3,6 @@ use mathlib.Core.Bool.{true}
 use mathlib.Core.Logic.{⊎_elim, inl, inr}
 use Prim.Native.Nat.{ℕ, ◌≤◌, ◌^◌}
 use native.Mathlib.Nat.{lt_of_lt_of_le}
-use borrow.Author.Rules.{rules}
-use borrow.Author.Tests.{not-true, not-false}
 use lib.ListN.{length}
 use lib.Pow.{pow_mono}
 use Rattle.refusal.specs.Checks.{is_mode}
@@ -23,8 +21,7 @@ use Rattle.energy.proofs.of_heard.Goals.{Else-not-is_mode, Else-weights-ne64, Af
 
 pub returns-then-not-is_mode : goal.returns-then-not-is_mode
 returns-then-not-is_mode c =
-    let m = c.before.before in
-    c.refused.ensures ∙ sym (refuses_mode _ _ _ _ (sym m.is_mode.ensures ∙ c.if-not-is_mode.true))
+    c.refused.ensures ∙ sym (refuses_mode _ _ _ _ (sym c.is_mode.ensures ∙ c.if-not-is_mode.true))
 
 -- the mode, once its check has passed
 mode_known : (c : Else-not-is_mode) → is_mode c.args.mode ≡ true
@@ -35,8 +32,7 @@ returns-then-tones-ne64 c = c.refused-then-tones-ne64.ensures ∙ sym (refuses_c
 
 pub returns-then-weights-ne64 : goal.returns-then-weights-ne64
 returns-then-weights-ne64 c =
-    let n = c.before.before in
-    c.refused-then-weights-ne64.ensures ∙ sym (refuses_weights _ _ _ _ (mode_known (goal.at.returns-then-weights-ne64 c).Else-not-is_mode) n.if-tones-ne64.false c.if-weights-ne64.true)
+    c.refused-then-weights-ne64.ensures ∙ sym (refuses_weights _ _ _ _ (mode_known (goal.at.returns-then-weights-ne64 c).Else-not-is_mode) c.if-tones-ne64.false c.if-weights-ne64.true)
 
 -- what the checks before the ranges leave
 passed : (c : Else-weights-ne64) → let a = c.args in Passed a.mode (length a.tones.now) (length a.weights.now)
@@ -55,7 +51,6 @@ range c =
 
 pub returns-then-range-lt64 : goal.returns-then-range-lt64
 returns-then-range-lt64 c =
-    let k = c.before.before.before in
     c.refused-then-range-lt64.ensures ∙ ap (refused 8) (range (goal.at.returns-then-range-lt64 c).After-check-range) ∙ sym (refuses_tone _ _ _ _ (passed (goal.at.returns-then-range-lt64 c).Else-weights-ne64) (rw (range (goal.at.returns-then-range-lt64 c).After-check-range) at c.if-range-lt64.true))
 
 -- no tone is bad
@@ -70,11 +65,9 @@ in_range c =
 
 pub returns-then-bad_weight-lt64 : goal.returns-then-bad_weight-lt64
 returns-then-bad_weight-lt64 c =
-    let w = c.before.before in
-    let k = w.before.before.before in
     c.refused-then-bad_weight-lt64.ensures
-    ∙ ap (refused 14) w.first_bad_weight-bad_weight.ensures
-    ∙ sym (refuses_weight _ _ _ _ (passed (goal.at.returns-then-bad_weight-lt64 c).Else-weights-ne64) (in_range (goal.at.returns-then-bad_weight-lt64 c).Else-range-lt64) (rw w.first_bad_weight-bad_weight.ensures at c.if-bad_weight-lt64.true))
+    ∙ ap (refused 14) c.first_bad_weight-bad_weight.ensures
+    ∙ sym (refuses_weight _ _ _ _ (passed (goal.at.returns-then-bad_weight-lt64 c).Else-weights-ne64) (in_range (goal.at.returns-then-bad_weight-lt64 c).Else-range-lt64) (rw c.first_bad_weight-bad_weight.ensures at c.if-bad_weight-lt64.true))
 
 -- nor is a weight
 weighed : (c : Else-bad_weight-lt64) → let a = c.args in 64 ≤ first_bad_weight a.greatest a.weights.now
@@ -85,14 +78,12 @@ has_weights c =
     let mode_known : is_mode c.args.mode ≡ true = sym c.is_mode.ensures ∙ c.if-not-is_mode.false in
     let passed : let a = c.args in Passed a.mode (length a.tones.now) (length a.weights.now) = record { mode = mode_known; count = c.if-tones-ne64.false; weighed = c.if-weights-ne64.false } in
     let weighed : let a = c.args in 64 ≤ first_bad_weight a.greatest a.weights.now = rw c.first_bad_weight-bad_weight.ensures at c.if-bad_weight-lt64.false in
-    let k = c.before.before.before.before in
-    fewer_weights _ _ 15 k.requires (in_range_weights _ _ (passed).weighed (weighed))
+    fewer_weights _ _ 15 c.requires (in_range_weights _ _ (passed).weighed (weighed))
 
 pub hear-heard-requires : goal.hear-heard-requires
 hear-heard-requires c =
-    let k = c.before.before.before.before in
     let p = passed (goal.at.hear-heard-requires c).Else-weights-ne64 in
-    let mode = k.args.mode in
+    let mode = c.args.mode in
     let tones = in_range_tones mode _ p.count (in_range (goal.at.hear-heard-requires c).Else-range-lt64) in (
       record {
         count = tones.count;
@@ -103,15 +94,10 @@ hear-heard-requires c =
 
 pub total-requires : goal.total-requires
 total-requires c =
-    let h = c.before.before.before.before in
-    rw (weights_heard _ _ h.hear-heard.ensures) (weights_few _ _ (has_weights (goal.at.total-requires c).Else-bad_weight-lt64))
+    rw (weights_heard _ _ c.hear-heard.ensures) (weights_few _ _ (has_weights (goal.at.total-requires c).Else-bad_weight-lt64))
 
 pub returns : goal.returns
 returns c =
-    let t = c.before.before.before.before in
-    let v = t.before.before in
-    let h = v.before.before.before in
-    let e = h.before in
     let p = passed (goal.at.returns c).Else-weights-ne64 in
-    same_summed _ _ (has_weights (goal.at.returns c).Else-bad_weight-lt64) _ p.mode _ (v.values-values.ensures ∙ mode_values _ p.mode) _ _ _ h.hear-heard.ensures t.total.ensures c.energies.ensures
+    same_summed _ _ (has_weights (goal.at.returns c).Else-bad_weight-lt64) _ p.mode _ (c.values-values.ensures ∙ mode_values _ p.mode) _ _ _ c.hear-heard.ensures c.total.ensures c.energies.ensures
     ∙ sym (sums_up _ _ _ _ p (in_range (goal.at.returns c).Else-range-lt64) (weighed (goal.at.returns c).Else-bad_weight-lt64))

@@ -1,4 +1,3 @@
-use native.Mathlib.Omega.{arith}
 use Rattle.energy.proofs.of_weighted.Goals as goal
 
 pub returns : goal.returns

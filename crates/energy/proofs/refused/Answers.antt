@@ -1,4 +1,3 @@
-use borrow.Author.Rules.{rules}
 use Rattle.energy.specs.Energies.{refused}
 use Rattle.energy.proofs.refused.Goals as goal
 

@@ -24,6 +24,4 @@ returns-then-tone-eq-MISSING c = rw (eq-eqb _ _ c.if-tone-eq-MISSING.true)
 pub returns-else-tone-eq-MISSING : goal.returns-else-tone-eq-MISSING
 unfolding seen_symbol
 returns-else-tone-eq-MISSING c =
-    let e = c.before in
-    let s = e.before in
-    rw (ne_eqb _ _ e.if-tone-eq-MISSING.false) (ap (λ (x : List _). num x s.args.tone) s.requires.0 ∙ tab_at symbol_of 0 256 s.args.tone (below (goal.at.returns-else-tone-eq-MISSING c).Else-tone-eq-MISSING))
+    rw (ne_eqb _ _ c.if-tone-eq-MISSING.false) (ap (λ (x : List _). num x c.args.tone) c.requires.0 ∙ tab_at symbol_of 0 256 c.args.tone (below (goal.at.returns-else-tone-eq-MISSING c).Else-tone-eq-MISSING))

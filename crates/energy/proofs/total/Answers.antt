@@ -1,8 +1,7 @@
 use mathlib.Core.Path.{◌≡◌, refl, ap}
-use Prim.Native.Nat.{ℕ, ◌-◌, ◌*◌, ◌≤◌}
+use Prim.Native.Nat.{ℕ, ◌*◌, ◌≤◌}
 use native.Mathlib.Nat.{mul-le-mul}
 use native.Mathlib.Omega.{arith}
-use borrow.Author.Rules.{rules}
 use Rattle.lists.specs.Lists.{num}
 use Rattle.lists.specs.Sums.{total}
 use Rattle.lists.proofs.Sums.{total_more}
@@ -16,8 +15,7 @@ loop-t-init c = (omega arith, omega arith, refl)
 -- a square is at most that of 15
 few : (c : After-squared-sum) → c.squared-sum.result ≤ 225
 few c =
-    let l = c.before.before.before in
-    let h = l.requires l.loop-t.t c.loop-t-test.true in
+    let h = c.requires c.loop-t.t c.loop-t-test.true in
     omega (arith, c.squared-sum.ensures, mul-le-mul h h)
 
 pub overflow_add-sum : goal.overflow_add-sum
@@ -25,9 +23,8 @@ overflow_add-sum c = omega (arith, few (goal.at.overflow_add-sum c).After-square
 
 pub loop-t-preserved : goal.loop-t-preserved
 loop-t-preserved c =
-    let l = c.before.before.before in
-    let f : ℕ → ℕ = λ k. num l.args.weights.now k * num l.args.weights.now k in
-    (omega arith, omega (arith, few (goal.at.loop-t-preserved c).After-squared-sum, l.loop-t.invariant.1), omega (arith, l.loop-t.invariant.2, c.squared-sum.ensures, total_more l.loop-t.t f))
+    let f : ℕ → ℕ = λ k. num c.args.weights.now k * num c.args.weights.now k in
+    (omega arith, omega (arith, few (goal.at.loop-t-preserved c).After-squared-sum, c.loop-t.invariant.1), omega (arith, c.loop-t.invariant.2, c.squared-sum.ensures, total_more c.loop-t.t f))
 
 pub overflow_mul-result : goal.overflow_mul-result
 overflow_mul-result c = omega (arith, c.loop-t.invariant.1)

@@ -1,11 +1,7 @@
-use mathlib.Core.Path.{◌≡◌, refl, ap}
-use Prim.Native.Nat.{ℕ, ◌-◌, ◌*◌, ◌≤◌}
-use native.Mathlib.Nat.{mul-le-mul}
-use native.Mathlib.Omega.{arith}
-use borrow.Author.Rules.{rules}
+use mathlib.Core.Path.{◌≡◌}
+use Prim.Native.Nat.{◌-◌, ◌*◌, ◌≤◌}
 use Rattle.lists.specs.Lists.{num}
 use Rattle.lists.specs.Sums.{total}
-use Rattle.lists.proofs.Sums.{total_more}
 use Rattle.energy.proofs.total.Given as goal
 
 abbrev pub invariant-loop-t : goal.invariant-loop-t

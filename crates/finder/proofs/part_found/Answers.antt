@@ -29,8 +29,7 @@ slice_bounds-result-end c = omega (arith, fits (goal.at.slice_bounds-result-end 
 
 pub returns-in-Start : goal.returns-in-Start
 returns-in-Start c =
-    let a = c.before.before in
-    is_part a.args.run _ _ c.result-1.given.0 a.in-Start.is
+    is_part c.args.run _ _ c.result-1.given.0 c.in-Start.is
 
 pub returns-in-Refused : goal.returns-in-Refused
 returns-in-Refused c = no_part c.args.run _ _ c.result-in-Refused-1.given.0 c.in-Refused.is

@@ -30,9 +30,7 @@ loop-k-init c = (search rules, sym (zero-mul _), refl, refl, λ i h. absurd (ome
 -- the block's codes lie within the codes
 room : (c : In-loop-k) → c.loop-k.at + c.args.mode ≤ length c.loop-k.codes
 room c =
-    let l = c.before in
-    let s = l.before.before.before in
-    omega (arith, place_room l.loop-k.k s.args.count s.args.mode c.loop-k-test.true, s.requires)
+    omega (arith, place_room c.loop-k.k c.args.count c.args.mode c.loop-k-test.true, c.requires)
 
 pub overflow_add-at : goal.overflow_add-at
 overflow_add-at c = omega (arith, room (goal.at.overflow_add-at c).In-loop-k)
@@ -49,10 +47,9 @@ overflow_add-at c = omega (arith, room (goal.at.overflow_add-at c).In-loop-k)
 set : (s : Start) → IsSet s.args.mode s.args.least_lead
 set s = record { mode = s.requires.settings.0; lead = s.requires.settings.1 }
 
-heard : (i : In-loop-k) → let s = i.before.before.before.before in HasTones (2 ^ s.args.mode) (block_at s.args.tones.now i.loop-k.k)
+heard : (i : In-loop-k) → HasTones (2 ^ i.args.mode) (block_at i.args.tones.now i.loop-k.k)
 heard i =
-    let s = i.before.before.before.before in
-    block_has_tones s.args.tones.now s.args.count i.loop-k.k s.requires.whole i.loop-k-test.true s.args.mode s.requires.range
+    block_has_tones i.args.tones.now i.args.count i.loop-k.k i.requires.whole i.loop-k-test.true i.args.mode i.requires.range
 
 part : In-loop-k → List ℕ
 part i =
@@ -62,39 +59,27 @@ part i =
 size : (i : In-loop-k) → length (part i) ≡ i.args.mode
 unfolding part
 size i =
-    let room : i.loop-k.at + i.args.mode ≤ length i.loop-k.codes = let l = i.before in
-    let s = l.before.before.before in
-    omega (arith, place_room l.loop-k.k s.args.count s.args.mode i.loop-k-test.true, s.requires) in
+    let room : i.loop-k.at + i.args.mode ≤ length i.loop-k.codes = omega (arith, place_room i.loop-k.k i.args.count i.args.mode i.loop-k-test.true, i.requires) in
     part_length i.loop-k.codes i.loop-k.at i.args.mode (room)
 
 -- the call's answer is the decision on block k
-decision : (c : After-decode-answer) → let i = c.before.before.before in let s = i.before.before.before.before in c.decode-answer.result ≡ (decode_block s.args.mode s.args.least_lead (block_at s.args.tones.now i.loop-k.k) (length (part i))).answer
+decision : (c : After-decode-answer) → c.decode-answer.result ≡ (decode_block c.args.mode c.args.least_lead (block_at c.args.tones.now c.loop-k.k) (length (part c))).answer
 unfolding part
 decision c =
-    let heard : let s = c.before.before.before.before in HasTones (2 ^ s.args.mode) (block_at s.args.tones.now c.loop-k.k) = let s = c.before.before.before.before in
-    block_has_tones s.args.tones.now s.args.count c.loop-k.k s.requires.whole c.loop-k-test.true s.args.mode s.requires.range in
-    let i = c.before.before.before in
-    let s = i.before.before.before.before in
+    let heard : HasTones (2 ^ c.args.mode) (block_at c.args.tones.now c.loop-k.k) = block_has_tones c.args.tones.now c.args.count c.loop-k.k c.requires.whole c.loop-k-test.true c.args.mode c.requires.range in
     c.decode-answer.ensures.answer
-    ∙ ap (λ (x : List ℕ). decode_checked s.args.mode s.args.least_lead x (length (part i))) (part_block s.args.tones.now i.loop-k.k)
-    ∙ in_range.answer s.args.mode s.args.least_lead (block_at s.args.tones.now i.loop-k.k) (length (part i)) (heard)
+    ∙ ap (λ (x : List ℕ). decode_checked c.args.mode c.args.least_lead x (length (part c))) (part_block c.args.tones.now c.loop-k.k)
+    ∙ in_range.answer c.args.mode c.args.least_lead (block_at c.args.tones.now c.loop-k.k) (length (part c)) (heard)
 
 pub overflow_add-at-in-Refused : goal.overflow_add-at-in-Refused
 overflow_add-at-in-Refused c =
-    let d = c.before.before.before.before.before.before in
-    let i = d.before.before.before in
-    let s = i.before.before.before.before in
     let a = c.answer-1.given in
-    omega (arith, room (goal.at.overflow_add-at-in-Refused c).In-loop-k, refused_inside s.args.mode s.args.least_lead s.args.tones.now i.loop-k.k (part i) (set (goal.at.overflow_add-at-in-Refused c).Start) (heard (goal.at.overflow_add-at-in-Refused c).In-loop-k) (size (goal.at.overflow_add-at-in-Refused c).In-loop-k) i.loop-k.invariant.4 a.0.0 (sym (decision (goal.at.overflow_add-at-in-Refused c).After-decode-answer) ∙ a.1))
+    omega (arith, room (goal.at.overflow_add-at-in-Refused c).In-loop-k, refused_inside c.args.mode c.args.least_lead c.args.tones.now c.loop-k.k (part c) (set (goal.at.overflow_add-at-in-Refused c).Start) (heard (goal.at.overflow_add-at-in-Refused c).In-loop-k) (size (goal.at.overflow_add-at-in-Refused c).In-loop-k) c.loop-k.invariant.4 a.0.0 (sym (decision (goal.at.overflow_add-at-in-Refused c).After-decode-answer) ∙ a.1))
 
 pub returns-in-Refused : goal.returns-in-Refused
 returns-in-Refused c =
-    let d = c.before.before.before.before.before.before.before in
-    let i = d.before.before.before in
-    let l = i.before in
-    let s = l.before.before.before in
     let a = c.answer-1.given in
-    let told = block_refused s.args.mode s.args.least_lead s.args.tones.now l.loop-k.k (part i) (set (goal.at.returns-in-Refused c).Start) (heard (goal.at.returns-in-Refused c).In-loop-k) (size (goal.at.returns-in-Refused c).In-loop-k) l.loop-k.invariant.4 s.args.count (Text (s.args.count * s.args.mode)) i.loop-k-test.true a.0.0 (sym (decision (goal.at.returns-in-Refused c).After-decode-answer) ∙ a.1) in record { answer = ap Refused (c.unclear.ensures ∙ ap (λ (at : ℕ). unclear_at (at + a.0.0.place) a.0.0.lead) l.loop-k.invariant.1) ∙ sym told; output = λ e. absurd (text_refused (sym e)) }
+    let told = block_refused c.args.mode c.args.least_lead c.args.tones.now c.loop-k.k (part c) (set (goal.at.returns-in-Refused c).Start) (heard (goal.at.returns-in-Refused c).In-loop-k) (size (goal.at.returns-in-Refused c).In-loop-k) c.loop-k.invariant.4 c.args.count (Text (c.args.count * c.args.mode)) c.loop-k-test.true a.0.0 (sym (decision (goal.at.returns-in-Refused c).After-decode-answer) ∙ a.1) in record { answer = ap Refused (c.unclear.ensures ∙ ap (λ (at : ℕ). unclear_at (at + a.0.0.place) a.0.0.lead) c.loop-k.invariant.1) ∙ sym told; output = λ e. absurd (text_refused (sym e)) }
 
 pub overflow_add-at-in-loop-k : goal.overflow_add-at-in-loop-k
 overflow_add-at-in-loop-k c = omega (arith, room (goal.at.overflow_add-at-in-loop-k c).In-loop-k)
@@ -102,28 +87,22 @@ overflow_add-at-in-loop-k c = omega (arith, room (goal.at.overflow_add-at-in-loo
 pub loop-k-preserved : goal.loop-k-preserved
 unfolding part
 loop-k-preserved c =
-    let d = c.before.before.before.before in
-    let i = d.before.before.before in
-    let l = i.before in
-    let s = l.before.before.before in
     let answer = sym (decision (goal.at.loop-k-preserved c).After-decode-answer) ∙ c.in-Text.is in
-    let put : d.decode-answer.new.codes ≡ codes_of (characters_of s.args.mode (block_at s.args.tones.now l.loop-k.k)) =
-    d.decode-answer.ensures.output
-    ∙ ap (λ (x : List ℕ). checked_into s.args.mode s.args.least_lead x (part i)) (part_block s.args.tones.now l.loop-k.k)
-    ∙ in_range.output s.args.mode s.args.least_lead (block_at s.args.tones.now l.loop-k.k) (part i) (heard (goal.at.loop-k-preserved c).In-loop-k)
-    ∙ block_codes_lem s.args.mode s.args.least_lead s.args.tones.now l.loop-k.k (part i) (set (goal.at.loop-k-preserved c).Start) (heard (goal.at.loop-k-preserved c).In-loop-k) (size (goal.at.loop-k-preserved c).In-loop-k) l.loop-k.invariant.4 _ answer in
-    let more = codes_more s.args.mode s.args.tones.now l.loop-k.k l.loop-k.at l.loop-k.codes d.decode-answer.new.codes s.args.codes.now l.loop-k.invariant.1 l.loop-k.invariant.3 put in (
+    let put : c.decode-answer.new.codes ≡ codes_of (characters_of c.args.mode (block_at c.args.tones.now c.loop-k.k)) =
+    c.decode-answer.ensures.output
+    ∙ ap (λ (x : List ℕ). checked_into c.args.mode c.args.least_lead x (part c)) (part_block c.args.tones.now c.loop-k.k)
+    ∙ in_range.output c.args.mode c.args.least_lead (block_at c.args.tones.now c.loop-k.k) (part c) (heard (goal.at.loop-k-preserved c).In-loop-k)
+    ∙ block_codes_lem c.args.mode c.args.least_lead c.args.tones.now c.loop-k.k (part c) (set (goal.at.loop-k-preserved c).Start) (heard (goal.at.loop-k-preserved c).In-loop-k) (size (goal.at.loop-k-preserved c).In-loop-k) c.loop-k.invariant.4 _ answer in
+    let more = codes_more c.args.mode c.args.tones.now c.loop-k.k c.loop-k.at c.loop-k.codes c.decode-answer.new.codes c.args.codes.now c.loop-k.invariant.1 c.loop-k.invariant.3 put in (
       search rules,
-      next_place l.loop-k.k s.args.mode l.loop-k.at l.loop-k.invariant.1,
+      next_place c.loop-k.k c.args.mode c.loop-k.at c.loop-k.invariant.1,
       search rules,
       more,
-      block_clear s.args.mode s.args.least_lead s.args.tones.now l.loop-k.k (part i) (set (goal.at.loop-k-preserved c).Start) (heard (goal.at.loop-k-preserved c).In-loop-k) (size (goal.at.loop-k-preserved c).In-loop-k) l.loop-k.invariant.4 _ answer,
+      block_clear c.args.mode c.args.least_lead c.args.tones.now c.loop-k.k (part c) (set (goal.at.loop-k-preserved c).Start) (heard (goal.at.loop-k-preserved c).In-loop-k) (size (goal.at.loop-k-preserved c).In-loop-k) c.loop-k.invariant.4 _ answer,
     )
 
 pub returns : goal.returns
 returns c =
-    let l = c.before in
-    let s = l.before.before.before in
-    let k : l.loop-k.k ≡ s.args.count = omega arith in
-    let at : l.loop-k.at ≡ s.args.count * s.args.mode = rw k at l.loop-k.invariant.1 in
-    let clear : Clear s.args.mode s.args.least_lead s.args.tones.now s.args.count = rw k at l.loop-k.invariant.4 in record { answer = ap Text at ∙ sym (clear_heard s.args.mode s.args.least_lead s.args.tones.now s.args.count (Text (s.args.count * s.args.mode)) clear); output = λ e. rw k at l.loop-k.invariant.3 }
+    let k : c.loop-k.k ≡ c.args.count = omega arith in
+    let at : c.loop-k.at ≡ c.args.count * c.args.mode = rw k at c.loop-k.invariant.1 in
+    let clear : Clear c.args.mode c.args.least_lead c.args.tones.now c.args.count = rw k at c.loop-k.invariant.4 in record { answer = ap Text at ∙ sym (clear_heard c.args.mode c.args.least_lead c.args.tones.now c.args.count (Text (c.args.count * c.args.mode)) clear); output = λ e. rw k at c.loop-k.invariant.3 }

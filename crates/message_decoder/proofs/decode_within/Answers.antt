@@ -25,7 +25,7 @@ use Rattle.message_decoder.proofs.decode_within.Goals.{Else-not-is_mode, Else-no
 
 pub returns-then-not-is_mode : goal.returns-then-not-is_mode
 returns-then-not-is_mode c =
-    let m = c.before.before in record { answer = (refusal_told_lem _ _ _ _ _ c.at.ensures (refuses_mode _ _ _ _ _ (sym m.is_mode.ensures ∙ c.if-not-is_mode.true))).0; output = (refusal_told_lem _ _ _ _ _ c.at.ensures (refuses_mode _ _ _ _ _ (sym m.is_mode.ensures ∙ c.if-not-is_mode.true))).1 }
+    let both = refusal_told_lem _ _ _ _ _ c.at.ensures (refuses_mode _ _ _ _ _ (sym c.is_mode.ensures ∙ c.if-not-is_mode.true)) in record { answer = both.0; output = both.1 }
 
 -- the settings and the count of tones, once their checks have passed
 mode_known : (c : Else-not-is_mode) → is_mode c.args.mode ≡ true
@@ -39,7 +39,7 @@ whole_known c = sym c.is_whole.ensures ∙ c.if-not-is_whole.false
 
 pub returns-then-not-is_lead : goal.returns-then-not-is_lead
 returns-then-not-is_lead c =
-    let l = c.before.before in record { answer = (refusal_told_lem _ _ _ _ _ c.at-then-not-is_lead.ensures (refuses_lead _ _ _ _ _ (mode_known (goal.at.returns-then-not-is_lead c).Else-not-is_mode) (sym l.is_lead.ensures ∙ c.if-not-is_lead.true))).0; output = (refusal_told_lem _ _ _ _ _ c.at-then-not-is_lead.ensures (refuses_lead _ _ _ _ _ (mode_known (goal.at.returns-then-not-is_lead c).Else-not-is_mode) (sym l.is_lead.ensures ∙ c.if-not-is_lead.true))).1 }
+    let both = refusal_told_lem _ _ _ _ _ c.at-then-not-is_lead.ensures (refuses_lead _ _ _ _ _ (mode_known (goal.at.returns-then-not-is_lead c).Else-not-is_mode) (sym c.is_lead.ensures ∙ c.if-not-is_lead.true)) in record { answer = both.0; output = both.1 }
 
 pub is_whole-requires : goal.is_whole-requires
 is_whole-requires c =
@@ -48,12 +48,8 @@ is_whole-requires c =
 
 pub returns-then-not-is_whole : goal.returns-then-not-is_whole
 returns-then-not-is_whole c =
-    let w = c.before.before in record {
-      answer = (refusal_told_lem _ _ _ _ _ c.at-then-not-is_whole.ensures
-          (refuses_count _ _ _ _ _ (mode_known (goal.at.returns-then-not-is_whole c).Else-not-is_mode) (lead_known (goal.at.returns-then-not-is_whole c).Else-not-is_lead) (sym w.is_whole.ensures ∙ c.if-not-is_whole.true))).0;
-      output = (refusal_told_lem _ _ _ _ _ c.at-then-not-is_whole.ensures
-          (refuses_count _ _ _ _ _ (mode_known (goal.at.returns-then-not-is_whole c).Else-not-is_mode) (lead_known (goal.at.returns-then-not-is_whole c).Else-not-is_lead) (sym w.is_whole.ensures ∙ c.if-not-is_whole.true))).1;
-    }
+    let both = refusal_told_lem _ _ _ _ _ c.at-then-not-is_whole.ensures
+          (refuses_count _ _ _ _ _ (mode_known (goal.at.returns-then-not-is_whole c).Else-not-is_mode) (lead_known (goal.at.returns-then-not-is_whole c).Else-not-is_lead) (sym c.is_whole.ensures ∙ c.if-not-is_whole.true)) in record { answer = both.0; output = both.1 }
 
 pub overflow_mul-total : goal.overflow_mul-total
 overflow_mul-total c =
@@ -62,16 +58,13 @@ overflow_mul-total c =
 
 pub returns-then-text-total : goal.returns-then-text-total
 returns-then-text-total c =
-    let w = c.before.before in
-    let l = w.before.before in record { answer = (refusal_told_lem _ _ _ _ _ c.at-then-text-total.ensures (refuses_room _ _ _ _ _ (mode_known (goal.at.returns-then-text-total c).Else-not-is_mode) (lead_known (goal.at.returns-then-text-total c).Else-not-is_lead) (whole_known (goal.at.returns-then-text-total c).Else-not-is_whole) c.if-text-total.true)).0; output = (refusal_told_lem _ _ _ _ _ c.at-then-text-total.ensures (refuses_room _ _ _ _ _ (mode_known (goal.at.returns-then-text-total c).Else-not-is_mode) (lead_known (goal.at.returns-then-text-total c).Else-not-is_lead) (whole_known (goal.at.returns-then-text-total c).Else-not-is_whole) c.if-text-total.true)).1 }
+    let both = refusal_told_lem _ _ _ _ _ c.at-then-text-total.ensures (refuses_room _ _ _ _ _ (mode_known (goal.at.returns-then-text-total c).Else-not-is_mode) (lead_known (goal.at.returns-then-text-total c).Else-not-is_lead) (whole_known (goal.at.returns-then-text-total c).Else-not-is_whole) c.if-text-total.true) in record { answer = both.0; output = both.1 }
 
 passed : (c : Else-text-total) → let a = c.args in Passed a.limit a.mode a.least_lead (length a.tones.now) (length a.text.now)
 passed c =
     let mode_known : is_mode c.args.mode ≡ true = sym c.is_mode.ensures ∙ c.if-not-is_mode.false in
     let lead_known : is_lead c.args.least_lead ≡ true = sym c.is_lead.ensures ∙ c.if-not-is_lead.false in
     let whole_known : let a = c.args in is_whole a.limit a.mode (length a.tones.now) ≡ true = sym c.is_whole.ensures ∙ c.if-not-is_whole.false in
-    let w = c.before in
-    let l = w.before.before in
     record { mode = mode_known; lead = lead_known; whole = whole_known; fits = c.if-text-total.false }
 
 -- the range check is by the mode's count of tones
@@ -80,38 +73,31 @@ range c =
     let mode_known : is_mode c.args.mode ≡ true = sym c.is_mode.ensures ∙ c.if-not-is_mode.false in
     let lead_known : is_lead c.args.least_lead ≡ true = sym c.is_lead.ensures ∙ c.if-not-is_lead.false in
     let whole_known : let a = c.args in is_whole a.limit a.mode (length a.tones.now) ≡ true = sym c.is_whole.ensures ∙ c.if-not-is_whole.false in
-    let passed : let a = c.args in Passed a.limit a.mode a.least_lead (length a.tones.now) (length a.text.now) = let w = c.before in
-    let l = w.before.before in
-    record { mode = mode_known; lead = lead_known; whole = whole_known; fits = c.if-text-total.false } in
-    let t = c.before in
-    let a = t.args in
-    bad_found _ _ c.check-range.ensures ∙ ap (λ (limit : ℕ). first_bad_tone limit a.tones.now) (t.tone_count.ensures ∙ mode_tones a.mode (passed).mode)
+    let passed : let a = c.args in Passed a.limit a.mode a.least_lead (length a.tones.now) (length a.text.now) = record { mode = mode_known; lead = lead_known; whole = whole_known; fits = c.if-text-total.false } in
+    let a = c.args in
+    bad_found _ _ c.check-range.ensures ∙ ap (λ (limit : ℕ). first_bad_tone limit a.tones.now) (c.tone_count.ensures ∙ mode_tones a.mode (passed).mode)
 
 hearable : (c : Else-range-tones) → let a = c.args in Hearable a.limit a.mode a.least_lead a.tones.now (length a.text.now)
 hearable c =
     let mode_known : is_mode c.args.mode ≡ true = sym c.is_mode.ensures ∙ c.if-not-is_mode.false in
     let lead_known : is_lead c.args.least_lead ≡ true = sym c.is_lead.ensures ∙ c.if-not-is_lead.false in
     let whole_known : let a = c.args in is_whole a.limit a.mode (length a.tones.now) ≡ true = sym c.is_whole.ensures ∙ c.if-not-is_whole.false in
-    let passed : let a = c.args in Passed a.limit a.mode a.least_lead (length a.tones.now) (length a.text.now) = let w = c.before in
-    let l = w.before.before in
-    record { mode = mode_known; lead = lead_known; whole = whole_known; fits = c.if-text-total.false } in
-    let range : let a = c.args in c.check-range.result.bad ≡ first_bad_tone (2 ^ a.mode) a.tones.now = let t = c.before in
-    let a = t.args in
-    bad_found _ _ c.check-range.ensures ∙ ap (λ (limit : ℕ). first_bad_tone limit a.tones.now) (t.tone_count.ensures ∙ mode_tones a.mode (passed).mode) in
+    let passed : let a = c.args in Passed a.limit a.mode a.least_lead (length a.tones.now) (length a.text.now) = record { mode = mode_known; lead = lead_known; whole = whole_known; fits = c.if-text-total.false } in
+    let range : let a = c.args in c.check-range.result.bad ≡ first_bad_tone (2 ^ a.mode) a.tones.now = let a = c.args in
+    bad_found _ _ c.check-range.ensures ∙ ap (λ (limit : ℕ). first_bad_tone limit a.tones.now) (c.tone_count.ensures ∙ mode_tones a.mode (passed).mode) in
     record { passed = passed; in_range = omega (arith, range, c.if-range-tones.false) }
 
 pub returns-then-range-tones : goal.returns-then-range-tones
 returns-then-range-tones c =
-    let f = c.before.before.before in record { answer = (refusal_told_lem _ _ _ _ _ (c.at-then-range-tones.ensures ∙ ap (refused_at 8) (range (goal.at.returns-then-range-tones c).After-check-range)) (refuses_tone _ _ _ _ _ (passed (goal.at.returns-then-range-tones c).Else-text-total) (omega (arith, range (goal.at.returns-then-range-tones c).After-check-range, c.if-range-tones.true)))).0; output = (refusal_told_lem _ _ _ _ _ (c.at-then-range-tones.ensures ∙ ap (refused_at 8) (range (goal.at.returns-then-range-tones c).After-check-range)) (refuses_tone _ _ _ _ _ (passed (goal.at.returns-then-range-tones c).Else-text-total) (omega (arith, range (goal.at.returns-then-range-tones c).After-check-range, c.if-range-tones.true)))).1 }
+    let both = refusal_told_lem _ _ _ _ _ (c.at-then-range-tones.ensures ∙ ap (refused_at 8) (range (goal.at.returns-then-range-tones c).After-check-range)) (refuses_tone _ _ _ _ _ (passed (goal.at.returns-then-range-tones c).Else-text-total) (omega (arith, range (goal.at.returns-then-range-tones c).After-check-range, c.if-range-tones.true))) in record { answer = both.0; output = both.1 }
 
 pub collect-heard-requires : goal.collect-heard-requires
 collect-heard-requires c =
-    let s = c.before.before.before.before.before.before.before.before.before.before.before.before.before.before.before in
-    let a = s.args in
+    let a = c.args in
     let h = hearable (goal.at.collect-heard-requires c).Else-range-tones in
     let m = mode_range a.mode h.passed.mode in
     let whole = whole_blocks a.limit a.mode (length a.tones.now) h.passed.whole in
-    let few = whole_few a.limit a.mode (length a.tones.now) h.passed.whole m.0 in record { settings = (h.passed.mode, h.passed.lead); whole = whole; range = h.in_range; room = omega (arith, m.1, few, s.requires.room, h.passed.fits) }
+    let few = whole_few a.limit a.mode (length a.tones.now) h.passed.whole m.0 in record { settings = (h.passed.mode, h.passed.lead); whole = whole; range = h.in_range; room = omega (arith, m.1, few, c.requires.room, h.passed.fits) }
 
 -- what was collected, by the message's characters
 judged : (c : After-collect-heard) → let a = c.args in
@@ -122,7 +108,6 @@ judged c = c.collect-heard.ensures.answer
 -- a refusal leaves the output as it was
 pub returns-in-Refused : goal.returns-in-Refused
 returns-in-Refused c =
-    let d = c.before.before.before.before in
     let e = c.in-Refused.is in
     let refused = judges _ _ _ _ _ (hearable (goal.at.returns-in-Refused c).Else-range-tones) ∙ refused_alike _ _ _ _ (sym (judged (goal.at.returns-in-Refused c).After-collect-heard) ∙ e) in record { answer = e ∙ sym refused; output = sym (text_kept _ _ _ _ _ refused) }
 
@@ -136,24 +121,15 @@ collected c e =
 
 pub slice_bounds-deliver-end : goal.slice_bounds-deliver-end
 slice_bounds-deliver-end c =
-    let d = c.before.before.before.before.before in
     let e = c.enum_told-1.given.1 in
-    let a = d.before.args in
-    omega (arith, collected_fit a.mode a.tones.now (length a.tones.now / 64) d.collect.new.1.1.1.1.0 _ (collected d e))
+    let a = c.args in
+    omega (arith, collected_fit a.mode a.tones.now (length a.tones.now / 64) c.collect.new.1.1.1.1.0 _ (collected (goal.at.slice_bounds-deliver-end c).After-collect-heard e))
 
 pub returns-in-Text : goal.returns-in-Text
 unfolding message_characters
 returns-in-Text c =
-    let v = c.before.before in
-    let t = v.before.before.before.before in
-    let d = t.before.before.before.before in
-    let e = t.enum_told.given.1 in
-    let a = d.before.args in
-    let codes = collected_front a.mode a.tones.now (length a.tones.now / 64) d.collect.new.1.1.1.1.0 _ (collected d e) in record {
-      answer = (delivery_told a.limit a.mode a.least_lead a.tones.now a.text.now codes
+    let e = c.enum_told.given.1 in
+    let a = c.args in
+    let codes = collected_front a.mode a.tones.now (length a.tones.now / 64) c.collect.new.1.1.1.1.0 _ (collected (goal.at.returns-in-Text c).After-collect-heard e) in let both = delivery_told a.limit a.mode a.least_lead a.tones.now a.text.now codes
           (judges _ _ _ _ _ (hearable (goal.at.returns-in-Text c).Else-range-tones) ∙ clear_told _ _ _ (text_told _ _ _ _ (sym (judged (goal.at.returns-in-Text c).After-collect-heard) ∙ e)).0)
-          v.deliver.ensures.answer v.deliver.ensures.output).0;
-      output = (delivery_told a.limit a.mode a.least_lead a.tones.now a.text.now codes
-          (judges _ _ _ _ _ (hearable (goal.at.returns-in-Text c).Else-range-tones) ∙ clear_told _ _ _ (text_told _ _ _ _ (sym (judged (goal.at.returns-in-Text c).After-collect-heard) ∙ e)).0)
-          v.deliver.ensures.answer v.deliver.ensures.output).1;
-    }
+          c.deliver.ensures.answer c.deliver.ensures.output in record { answer = both.0; output = both.1 }

@@ -14,12 +14,10 @@ loop-i-init c = (search rules, refl, over_start _ _)
 
 pub loop-i-preserved : goal.loop-i-preserved
 loop-i-preserved c =
-    let l = c.before.before in
-    (search rules, simp length-set l.loop-i.invariant.1, over_set 0 _ l.loop-i.i _ _ _ (omega arith) l.loop-i.invariant.2 refl)
+    (search rules, simp length-set c.loop-i.invariant.1, over_set 0 _ c.loop-i.i _ _ _ (omega arith) c.loop-i.invariant.2 refl)
 
 pub returns : goal.returns
 returns c =
-    let l = c.before in
-    let a = l.args in
-    let e : l.loop-i.i ≡ a.n = omega arith in
-    rw e at l.loop-i.invariant.2 ∙ ap (λ (x : List ℕ). over x a.text.now) (tab_take 0 a.codes.now a.n (omega arith))
+    let a = c.args in
+    let e : c.loop-i.i ≡ a.n = omega arith in
+    rw e at c.loop-i.invariant.2 ∙ ap (λ (x : List ℕ). over x a.text.now) (tab_take 0 a.codes.now a.n (omega arith))

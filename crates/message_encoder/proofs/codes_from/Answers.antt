@@ -12,8 +12,7 @@ loop-q-init c = (search rules, over_start _ _)
 
 pub loop-q-preserved : goal.loop-q-preserved
 loop-q-preserved c =
-    let l = c.before.before in
-    (search rules, over_set 0 _ l.loop-q.q _ _ _ (omega arith) l.loop-q.invariant.1 c.code_at.ensures)
+    (search rules, over_set 0 _ c.loop-q.q _ _ _ (omega arith) c.loop-q.invariant.1 c.code_at.ensures)
 
 pub returns : goal.returns
 returns c = let e : c.loop-q.q ≡ c.args.mode = omega arith in rw e at c.loop-q.invariant.1

@@ -16,14 +16,14 @@ use Rattle.message_encoder.proofs.encode_within.Goals.{Else-not-is_mode, After-b
 
 pub returns-then-not-is_mode : goal.returns-then-not-is_mode
 returns-then-not-is_mode c =
-    let m = c.before.before in record { answer = (refusal_told_lem _ _ _ _ c.at.ensures (refuses_mode _ _ _ _ (sym m.is_mode.ensures ∙ c.if-not-is_mode.true))).0; output = (refusal_told_lem _ _ _ _ c.at.ensures (refuses_mode _ _ _ _ (sym m.is_mode.ensures ∙ c.if-not-is_mode.true))).1 }
+    let both = refusal_told_lem _ _ _ _ c.at.ensures (refuses_mode _ _ _ _ (sym c.is_mode.ensures ∙ c.if-not-is_mode.true)) in record { answer = both.0; output = both.1 }
 
 -- the mode, once its check has passed
 mode_known : (c : Else-not-is_mode) → is_mode c.args.mode ≡ true
 mode_known c = sym c.is_mode.ensures ∙ c.if-not-is_mode.false
 
 pub returns-then-limit-text : goal.returns-then-limit-text
-returns-then-limit-text c = record { answer = (refusal_told_lem _ _ _ _ c.at-then-limit-text.ensures (refuses_count _ _ _ _ (mode_known (goal.at.returns-then-limit-text c).Else-not-is_mode) c.if-limit-text.true)).0; output = (refusal_told_lem _ _ _ _ c.at-then-limit-text.ensures (refuses_count _ _ _ _ (mode_known (goal.at.returns-then-limit-text c).Else-not-is_mode) c.if-limit-text.true)).1 }
+returns-then-limit-text c = let both = refusal_told_lem _ _ _ _ c.at-then-limit-text.ensures (refuses_count _ _ _ _ (mode_known (goal.at.returns-then-limit-text c).Else-not-is_mode) c.if-limit-text.true) in record { answer = both.0; output = both.1 }
 
 pub block_count-count-requires : goal.block_count-count-requires
 block_count-count-requires c =
@@ -45,36 +45,24 @@ overflow_mul-count c =
 
 pub returns-then-tones-count : goal.returns-then-tones-count
 returns-then-tones-count c =
-    let b = c.before.before in record { answer = (refusal_told_lem _ _ _ _ c.at-then-tones-count.ensures (refuses_room _ _ _ _ (mode_known (goal.at.returns-then-tones-count c).Else-not-is_mode) b.if-limit-text.false (rw b.block_count-count.ensures at c.if-tones-count.true))).0; output = (refusal_told_lem _ _ _ _ c.at-then-tones-count.ensures (refuses_room _ _ _ _ (mode_known (goal.at.returns-then-tones-count c).Else-not-is_mode) b.if-limit-text.false (rw b.block_count-count.ensures at c.if-tones-count.true))).1 }
+    let both = refusal_told_lem _ _ _ _ c.at-then-tones-count.ensures (refuses_room _ _ _ _ (mode_known (goal.at.returns-then-tones-count c).Else-not-is_mode) c.if-limit-text.false (rw c.block_count-count.ensures at c.if-tones-count.true)) in record { answer = both.0; output = both.1 }
 
 pub returns-then-bad-text : goal.returns-then-bad-text
 returns-then-bad-text c =
-    let f = c.before.before in
-    let e = f.before in
-    let b = e.before in record {
-      answer = (refusal_told_lem _ _ _ _ (c.at-then-bad-text.ensures ∙ ap (refused_at 6) f.first_bad_code-bad.ensures)
-          (refuses_code _ _ _ _ (mode_known (goal.at.returns-then-bad-text c).Else-not-is_mode) b.if-limit-text.false (rw b.block_count-count.ensures at e.if-tones-count.false) (rw f.first_bad_code-bad.ensures at c.if-bad-text.true))).0;
-      output = (refusal_told_lem _ _ _ _ (c.at-then-bad-text.ensures ∙ ap (refused_at 6) f.first_bad_code-bad.ensures)
-          (refuses_code _ _ _ _ (mode_known (goal.at.returns-then-bad-text c).Else-not-is_mode) b.if-limit-text.false (rw b.block_count-count.ensures at e.if-tones-count.false) (rw f.first_bad_code-bad.ensures at c.if-bad-text.true))).1;
-    }
+    let both = refusal_told_lem _ _ _ _ (c.at-then-bad-text.ensures ∙ ap (refused_at 6) c.first_bad_code-bad.ensures)
+          (refuses_code _ _ _ _ (mode_known (goal.at.returns-then-bad-text c).Else-not-is_mode) c.if-limit-text.false (rw c.block_count-count.ensures at c.if-tones-count.false) (rw c.first_bad_code-bad.ensures at c.if-bad-text.true)) in record { answer = both.0; output = both.1 }
 
 -- what the checks of mode and text leave
 sendable : (c : Else-bad-text) → let a = c.args in Sendable a.limit a.mode a.text.now
 sendable c =
     let mode_known : is_mode c.args.mode ≡ true = sym c.is_mode.ensures ∙ c.if-not-is_mode.false in
-    let f = c.before in
-    let n = f.before.before.before in
-    record { mode = mode_known; count = n.if-limit-text.false; codes = rw f.first_bad_code-bad.ensures at c.if-bad-text.false }
+    record { mode = mode_known; count = c.if-limit-text.false; codes = rw c.first_bad_code-bad.ensures at c.if-bad-text.false }
 
 pub put_blocks-requires : goal.put_blocks-requires
 put_blocks-requires c =
-    let e = c.before.before.before in
-    let s = sendable (goal.at.put_blocks-requires c).Else-bad-text in record { mode = s.mode; codes = s.codes; few = few (goal.at.put_blocks-requires c).After-block_count-count; room = e.if-tones-count.false }
+    let s = sendable (goal.at.put_blocks-requires c).Else-bad-text in record { mode = s.mode; codes = s.codes; few = few (goal.at.put_blocks-requires c).After-block_count-count; room = c.if-tones-count.false }
 
 pub returns : goal.returns
 returns c =
-    let p = c.before.before in
-    let l = p.before.before in
-    let e = l.before.before in
-    let count = e.block_count-count.ensures in
-    let sent = encodes _ _ _ _ (sendable (goal.at.returns c).Else-bad-text) (rw count at e.if-tones-count.false) in record { answer = ap (λ (n : ℕ). Tones (64 * n)) count ∙ sym sent; output = rw count at p.put_blocks.ensures ∙ sym (tones_written _ _ _ _ sent) }
+    let count = c.block_count-count.ensures in
+    let sent = encodes _ _ _ _ (sendable (goal.at.returns c).Else-bad-text) (rw count at c.if-tones-count.false) in record { answer = ap (λ (n : ℕ). Tones (64 * n)) count ∙ sym sent; output = rw count at c.put_blocks.ensures ∙ sym (tones_written _ _ _ _ sent) }

@@ -19,18 +19,16 @@ loop-i-init c = (search rules, scan_start _ _)
 
 pub returns-then-code-lt1 : goal.returns-then-code-lt1
 returns-then-code-lt1 c =
-    let l = c.before.before.before in
-    let code = num l.args.text.now l.loop-i.i in
-    let here : bad_text_code l.args.text.now l.loop-i.i ≡ true =
+    let code = num c.args.text.now c.loop-i.i in
+    let here : bad_text_code c.args.text.now c.loop-i.i ≡ true =
     ap not (⊎_elim (λ w. below_low 1 127 code (omega (arith, w.taken))) (λ w. above_high 1 127 code (ltb-true _ _ w.1.taken)) c.then-code-lt1.branch) in
-    sym (scan_hit _ l.loop-i.i _ c.loop-i-test.true here) ∙ l.loop-i.invariant.1
+    sym (scan_hit _ c.loop-i.i _ c.loop-i-test.true here) ∙ c.loop-i.invariant.1
 
 pub loop-i-preserved : goal.loop-i-preserved
 loop-i-preserved c =
-    let l = c.before.before.before.before in
-    let here : bad_text_code l.args.text.now l.loop-i.i ≡ false =
-    ap not (within_true 1 127 (num l.args.text.now l.loop-i.i) c.if-code-lt1.false (ltb-false _ _ c.if-code-gt127.false-raw)) in
-    (search rules, scan_miss _ l.loop-i.i _ c.loop-i-test.true here ∙ l.loop-i.invariant.1)
+    let here : bad_text_code c.args.text.now c.loop-i.i ≡ false =
+    ap not (within_true 1 127 (num c.args.text.now c.loop-i.i) c.if-code-lt1.false (ltb-false _ _ c.if-code-gt127.false-raw)) in
+    (search rules, scan_miss _ c.loop-i.i _ c.loop-i-test.true here ∙ c.loop-i.invariant.1)
 
 pub returns : goal.returns
 returns c = sym (scan_end _ c.loop-i.i _ c.loop-i-test.false) ∙ c.loop-i.invariant.1

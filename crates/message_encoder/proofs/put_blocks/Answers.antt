@@ -26,9 +26,7 @@ mode_known s = mode_range s.args.mode s.requires.mode
 -- the block's codes lie within those of all blocks
 room : (c : In-loop-k) → c.loop-k.at + c.args.mode ≤ 2048
 room c =
-    let l = c.before in
-    let s = l.before.before.before in
-    omega (arith, place_room l.loop-k.k s.args.count s.args.mode c.loop-k-test.true, s.requires)
+    omega (arith, place_room c.loop-k.k c.args.count c.args.mode c.loop-k-test.true, c.requires)
 
 pub codes_from-codes-requires : goal.codes_from-codes-requires
 codes_from-codes-requires c = ((mode_known (goal.at.codes_from-codes-requires c).Start).1, omega (arith, room (goal.at.codes_from-codes-requires c).In-loop-k))
@@ -48,27 +46,21 @@ pub overflow_add-at : goal.overflow_add-at
 overflow_add-at c = omega (arith, room (goal.at.overflow_add-at c).In-loop-k)
 
 -- the part lent holds the block's tones
-put : (c : After-encode_block) → let l = c.before.before.before.before.before.before in let a = l.before.args in c.encode_block.new.tones ≡ tones_of a.mode (block_codes a.mode a.text.now l.loop.k)
+put : (c : After-encode_block) → let a = c.args in c.encode_block.new.tones ≡ tones_of a.mode (block_codes a.mode a.text.now c.loop.k)
 put c =
-    let i = c.before.before.before in
-    let l = i.before.before.before in
-    let s = l.before in
-    let a = s.args in
-    let codes : take (a.mode - 0) i.codes_from-codes.result ≡ block_codes a.mode a.text.now l.loop.k =
-    ap (take (a.mode - 0)) i.codes_from-codes.ensures ∙ codes_handed a.mode a.text.now l.loop.k l.loop.at l.loop.invariant.1 in
-    let part = take (64 * l.loop.k + 64 - 64 * l.loop.k) (drop (64 * l.loop.k) l.loop.tones) in
-    c.encode_block.ensures.output ∙ ap (λ (x : List ℕ). encoded_into a.mode x part) codes ∙ block_written a.mode a.text.now l.loop.k part s.requires.mode s.requires.codes (part_length l.loop.tones (64 * l.loop.k) 64 (omega arith))
+    let a = c.args in
+    let codes : take (a.mode - 0) c.codes_from-codes.result ≡ block_codes a.mode a.text.now c.loop.k =
+    ap (take (a.mode - 0)) c.codes_from-codes.ensures ∙ codes_handed a.mode a.text.now c.loop.k c.loop.at c.loop.invariant.1 in
+    let part = take (64 * c.loop.k + 64 - 64 * c.loop.k) (drop (64 * c.loop.k) c.loop.tones) in
+    c.encode_block.ensures.output ∙ ap (λ (x : List ℕ). encoded_into a.mode x part) codes ∙ block_written a.mode a.text.now c.loop.k part c.requires.mode c.requires.codes (part_length c.loop.tones (64 * c.loop.k) 64 (omega arith))
 
 pub loop-k-preserved : goal.loop-k-preserved
 loop-k-preserved c =
-    let e = c.before.before in
-    let l = e.before.before.before.before.before.before in
-    let a = l.before.args in
-    let more = blocks_more a.mode a.text.now l.loop.k l.loop.tones e.encode_block.new.tones a.tones.now l.loop.invariant.3 (put (goal.at.loop-k-preserved c).After-encode_block) in
-    (search rules, next_place l.loop.k a.mode l.loop.at l.loop.invariant.1, search rules, more)
+    let a = c.args in
+    let more = blocks_more a.mode a.text.now c.loop.k c.loop.tones c.encode_block.new.tones a.tones.now c.loop.invariant.3 (put (goal.at.loop-k-preserved c).After-encode_block) in
+    (search rules, next_place c.loop.k a.mode c.loop.at c.loop.invariant.1, search rules, more)
 
 pub returns : goal.returns
 returns c =
-    let l = c.before in
-    let e : l.loop-k.k ≡ l.args.count = omega arith in
-    rw e at l.loop-k.invariant.3
+    let e : c.loop-k.k ≡ c.args.count = omega arith in
+    rw e at c.loop-k.invariant.3

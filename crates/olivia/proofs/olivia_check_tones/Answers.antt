@@ -33,8 +33,7 @@ module _ (b : ℕ) (tones : List ℕ) where
 
 pub returns-then-not-is_mode : goal.returns-then-not-is_mode
 returns-then-not-is_mode c =
-    let m = c.before.before in
-    c.looked.ensures ∙ no_mode _ _ (sym m.is_mode.ensures ∙ c.if-not-is_mode.true)
+    c.looked.ensures ∙ no_mode _ _ (sym c.is_mode.ensures ∙ c.if-not-is_mode.true)
 
 mode_known : (c : Else-not-is_mode) → is_mode c.args.mode ≡ true
 mode_known c = sym c.is_mode.ensures ∙ c.if-not-is_mode.false
@@ -43,18 +42,15 @@ mode_known c = sym c.is_mode.ensures ∙ c.if-not-is_mode.false
 range : (c : After-check-range) → let a = c.args in c.check-range.result ≡ range_of (2 ^ a.mode) a.tones.now
 range c =
     let mode_known : is_mode c.args.mode ≡ true = sym c.is_mode.ensures ∙ c.if-not-is_mode.false in
-    let t = c.before in
-    let a = t.args in
-    c.check-range.ensures ∙ ap (λ (limit : ℕ). range_of limit a.tones.now) (t.tone_count.ensures ∙ mode_tones a.mode (mode_known))
+    let a = c.args in
+    c.check-range.ensures ∙ ap (λ (limit : ℕ). range_of limit a.tones.now) (c.tone_count.ensures ∙ mode_tones a.mode (mode_known))
 
 pub returns-then-range-tones : goal.returns-then-range-tones
 returns-then-range-tones c =
-    let f = c.before.before.before in
     c.looked-then-range-tones.ensures
-    ∙ bad_tone_lem _ _ (mode_known (goal.at.returns-then-range-tones c).Else-not-is_mode) f.check-range.result.bad f.check-range.result.looked (bad_found _ _ (range (goal.at.returns-then-range-tones c).After-check-range)) (looked_found _ _ (range (goal.at.returns-then-range-tones c).After-check-range)) c.if-range-tones.true
+    ∙ bad_tone_lem _ _ (mode_known (goal.at.returns-then-range-tones c).Else-not-is_mode) c.check-range.result.bad c.check-range.result.looked (bad_found _ _ (range (goal.at.returns-then-range-tones c).After-check-range)) (looked_found _ _ (range (goal.at.returns-then-range-tones c).After-check-range)) c.if-range-tones.true
 
 pub returns : goal.returns
 returns c =
-    let f = c.before.before.before in
     c.looked-2.ensures
-    ∙ good_tones _ _ (mode_known (goal.at.returns c).Else-not-is_mode) f.check-range.result.bad f.check-range.result.looked (bad_found _ _ (range (goal.at.returns c).After-check-range)) (looked_found _ _ (range (goal.at.returns c).After-check-range)) c.if-range-tones.false
+    ∙ good_tones _ _ (mode_known (goal.at.returns c).Else-not-is_mode) c.check-range.result.bad c.check-range.result.looked (bad_found _ _ (range (goal.at.returns c).After-check-range)) (looked_found _ _ (range (goal.at.returns c).After-check-range)) c.if-range-tones.false

@@ -11,12 +11,11 @@ use Rattle.olivia.proofs.olivia_trial_run.Goals as goal
 pub returns : goal.returns
 unfolding trial_of trial_told
 returns c =
-    let first = c.before.before.before in
-    let ran = first.run-trial in
+    let ran = c.run-trial in
     let sent = sent_kept ran.result.encoded (rw ran.ensures.answers (block_sent_small _ _ _)) in
     let one = heard_kept ran.result.first.answer (rw ran.ensures.answers (block_heard_small _ _ _ _ _ _)) in
     let two = heard_kept ran.result.second.answer (rw ran.ensures.answers (block_heard_small _ _ _ _ _ _)) in
-    let e0 = first.encoded.ensures ∙ ap encoded_told sent in
-    let e1 = first.decoded.ensures ∙ ap decoded_told one in
+    let e0 = c.encoded.ensures ∙ ap encoded_told sent in
+    let e1 = c.decoded.ensures ∙ ap decoded_told one in
     let e2 = c.decoded-2.ensures ∙ ap decoded_told two in
     tried_told _ _ _ _ _ _ _ _ _ _ ran.result _ (λ i. record { encoded = e0 i; first = e1 i; second = e2 i; replaced = c.capped.ensures i; missing = c.capped-2.ensures i }) ran.ensures

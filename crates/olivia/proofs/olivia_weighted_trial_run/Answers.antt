@@ -11,12 +11,11 @@ use Rattle.olivia.proofs.olivia_weighted_trial_run.Goals as goal
 pub returns : goal.returns
 unfolding weighted_trial_of weighted_trial_told
 returns c =
-    let first = c.before in
-    let ran = first.run_weighted-trial in
+    let ran = c.run_weighted-trial in
     let sent = sent_kept ran.result.encoded (rw ran.ensures.answers (block_sent_small _ _ _)) in
     let one = heard_kept ran.result.first.answer (rw ran.ensures.answers (block_heard_small _ _ _ _ _ _)) in
     let two = heard_kept ran.result.second.answer (rw ran.ensures.answers (block_heard_small _ _ _ _ _ _)) in
-    let e0 = first.encoded.ensures ∙ ap encoded_told sent in
-    let e1 = first.decoded.ensures ∙ ap decoded_told one in
+    let e0 = c.encoded.ensures ∙ ap encoded_told sent in
+    let e1 = c.decoded.ensures ∙ ap decoded_told one in
     let e2 = c.decoded-2.ensures ∙ ap decoded_told two in
     weighted_tried_told _ _ _ _ _ _ _ _ _ _ _ ran.result _ (λ i. record { encoded = e0 i; first = e1 i; second = e2 i; damage = ran.result.damage }) ran.ensures

@@ -21,14 +21,11 @@ mode_known c = sym c.is_mode.ensures ∙ c.if-not-is_mode.false
 
 pub returns-then-not-is_lead : goal.returns-then-not-is_lead
 returns-then-not-is_lead c =
-    let l = c.before in
-    let m = l.before in
-    no_lead _ _ _ m.if-run-gt-LONGEST_RUN.false (mode_known (goal.at.returns-then-not-is_lead c).Else-not-is_mode) (sym l.is_lead.ensures ∙ c.if-not-is_lead.true)
+    no_lead _ _ _ c.if-run-gt-LONGEST_RUN.false (mode_known (goal.at.returns-then-not-is_lead c).Else-not-is_mode) (sym c.is_lead.ensures ∙ c.if-not-is_lead.true)
 
 pub first_clear-requires : goal.first_clear-requires
 first_clear-requires c =
-    let l = c.before in
-    let m = l.before in record { settings = record { mode = mode_known (goal.at.first_clear-requires c).Else-not-is_mode; lead = sym l.is_lead.ensures ∙ c.if-not-is_lead.false }; count = search rules }
+    record { settings = record { mode = mode_known (goal.at.first_clear-requires c).Else-not-is_mode; lead = sym c.is_lead.ensures ∙ c.if-not-is_lead.false }; count = search rules }
 
 pub returns : goal.returns
 returns c = c.first_clear.ensures ∙ searched _ _ _ c.if-run-gt-LONGEST_RUN.false

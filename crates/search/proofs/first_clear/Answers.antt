@@ -21,33 +21,26 @@ pub is_clear-requires : goal.is_clear-requires
 is_clear-requires c = c.requires.settings
 
 -- the test is whether the 64 tones from the start on are accepted
-there : (c : After-is_clear) → let l = c.before.before.before.before.before.before.before.before.before in let a = l.args in c.is_clear.result ≡ accepted_at a.mode a.least_lead a.run.now l.loop-start.start
+there : (c : After-is_clear) → let a = c.args in c.is_clear.result ≡ accepted_at a.mode a.least_lead a.run.now c.loop-start.start
 there c =
-    let l = c.before.before.before.before.before.before.before.before.before in
-    let w = l.before.before.before in
-    let s = w.before.before.before.before.before.before.before in
-    let a = s.args in
-    let mode = s.requires.settings.mode in
-    let limit = w.tone_count.ensures ∙ mode_tones a.mode mode in
+    let a = c.args in
+    let mode = c.requires.settings.mode in
+    let limit = c.tone_count.ensures ∙ mode_tones a.mode mode in
     c.is_clear.ensures
-    ∙ clear_there a.mode a.least_lead s.requires.settings _ (l.values-values.ensures ∙ mode_values a.mode mode) a.run.now _ _ (replicate 4096 0) (replicate 4096 0) _ _ l.loop-start.start
-    (omega (arith, c.loop-start-test.true, s.requires.count.0))
-    w.put_symbols.ensures
-    (w.put_weights.ensures ∙ ap (λ (n : ℕ). over (tab (λ t. weight_below n (num a.run.now t)) (length a.run.now)) (replicate 4096 0)) limit)
+    ∙ clear_there a.mode a.least_lead c.requires.settings _ (c.values-values.ensures ∙ mode_values a.mode mode) a.run.now _ _ (replicate 4096 0) (replicate 4096 0) _ _ c.loop-start.start
+    (omega (arith, c.loop-start-test.true, c.requires.count.0))
+    c.put_symbols.ensures
+    (c.put_weights.ensures ∙ ap (λ (n : ℕ). over (tab (λ t. weight_below n (num a.run.now t)) (length a.run.now)) (replicate 4096 0)) limit)
     c.window-heard.ensures
     c.window-counting.ensures
 
 pub returns-then-is_clear : goal.returns-then-is_clear
 returns-then-is_clear c =
-    let i = c.before.before.before.before.before.before.before.before.before in
-    let l = i.before in
-    sym (scan_hit _ l.loop-start.start _ i.loop-start-test.true (sym (there (goal.at.returns-then-is_clear c).After-is_clear) ∙ c.if-is_clear.true)) ∙ l.loop-start.invariant.1
+    sym (scan_hit _ c.loop-start.start _ c.loop-start-test.true (sym (there (goal.at.returns-then-is_clear c).After-is_clear) ∙ c.if-is_clear.true)) ∙ c.loop-start.invariant.1
 
 pub loop-start-preserved : goal.loop-start-preserved
 loop-start-preserved c =
-    let i = c.before.before.before.before.before.before.before.before.before in
-    let l = i.before in
-    (search rules, scan_miss _ l.loop-start.start _ i.loop-start-test.true (sym (there (goal.at.loop-start-preserved c).After-is_clear) ∙ c.if-is_clear.false) ∙ l.loop-start.invariant.1)
+    (search rules, scan_miss _ c.loop-start.start _ c.loop-start-test.true (sym (there (goal.at.loop-start-preserved c).After-is_clear) ∙ c.if-is_clear.false) ∙ c.loop-start.invariant.1)
 
 pub returns : goal.returns
 returns c = sym (scan_end _ c.loop-start.start _ c.loop-start-test.false) ∙ c.loop-start.invariant.1

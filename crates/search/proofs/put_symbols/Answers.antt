@@ -18,9 +18,8 @@ bounds-symbols-t c = omega (arith, c.loop-t.invariant.1, c.requires)
 pub loop-t-preserved : goal.loop-t-preserved
 loop-t-preserved c =
     let l = c.loop-t in
-    let b = c.before.before.before in
-    let table = b.symbols-table.ensures in
-    (search rules, simp length-set l.invariant.1, over_set 0 _ l.t _ _ _ (omega (arith, b.requires)) l.invariant.2 (rw table (tab_at symbol_of 0 256 _ (omega arith))))
+    let table = c.symbols-table.ensures in
+    (search rules, simp length-set l.invariant.1, over_set 0 _ l.t _ _ _ (omega (arith, c.requires)) l.invariant.2 (rw table (tab_at symbol_of 0 256 _ (omega arith))))
 
 pub returns : goal.returns
 returns c =

@@ -17,8 +17,7 @@ bounds-weights-t c = omega (arith, c.loop-t.invariant.1, c.requires)
 pub loop-t-preserved : goal.loop-t-preserved
 loop-t-preserved c =
     let l = c.loop-t in
-    let s = c.before.before.before.before.before.before in
-    (search rules, simp length-set l.invariant.1, over_set 0 _ l.t _ _ _ (omega (arith, s.requires)) l.invariant.2 c.weight.ensures)
+    (search rules, simp length-set l.invariant.1, over_set 0 _ l.t _ _ _ (omega (arith, c.requires)) l.invariant.2 c.weight.ensures)
 
 pub returns : goal.returns
 returns c =

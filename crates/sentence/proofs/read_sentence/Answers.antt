@@ -1,4 +1,3 @@
-use borrow.Author.Rules.{rules}
 use Rattle.sentence.specs.Reading.{read_sentence}
 use Rattle.sentence.proofs.read_sentence.Goals as goal
 

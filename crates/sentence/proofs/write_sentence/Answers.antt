@@ -3,7 +3,6 @@ use mathlib.Core.Path.{◌∙◌, ap}
 use mathlib.Core.List.{List}
 use Prim.Native.Nat.{ℕ}
 use native.Mathlib.Omega.{arith}
-use borrow.Author.Rules.{rules}
 use lib.ListN.{length}
 use Rattle.sentence.specs.Sentences.{is_known_in, sentence_in, is_known, sentence_of}
 use Rattle.sentence.specs.Writing.{write_sentence, sentence_into}
@@ -19,4 +18,8 @@ unfolding is_known_in sentence_in is_known sentence_of write_sentence sentence_i
 returns c =
     let a = c.args in
     let w = c.write.ensures in
-    let pattern = c.pattern_of-pattern.ensures in record { answer = w.0 ∙ ap (λ (l : List ℕ). write_pattern l a.place a.lead (length a.out.now)) pattern; output = (w.1 ∙ ap (λ (l : List ℕ). pattern_into l a.place a.lead a.out.now) pattern, ) }
+    let pattern = c.pattern_of-pattern.ensures in
+    record {
+      answer = w.answer ∙ ap (λ (l : List ℕ). write_pattern l a.place a.lead (length a.out.now)) pattern;
+      output = w.output ∙ ap (λ (l : List ℕ). pattern_into l a.place a.lead a.out.now) pattern;
+    }

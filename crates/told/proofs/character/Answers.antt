@@ -15,8 +15,7 @@ same c p q = λ i. record { code = c.code; lead = c.lead; word = c.word; correla
 
 pub returns : goal.returns
 returns c =
-    let s = c.before.before in
-    let held = s.well_formed.0 in
-    same s.args.character
-    (to_z-of_z {w = w32} {z = s.args.character.correlation} (record { sfits = held.1.1.1.1.1.0.1 }))
-    (to_z-of_z {w = w32} {z = s.args.character.next_correlation} (record { sfits = held.1.1.1.1.1.1.1.0.1 }))
+    let held = c.well_formed.0 in
+    same c.args.character
+    (to_z-of_z {w = w32} {z = c.args.character.correlation} (record { sfits = held.1.1.1.1.1.0.1 }))
+    (to_z-of_z {w = w32} {z = c.args.character.next_correlation} (record { sfits = held.1.1.1.1.1.1.1.0.1 }))

@@ -8,10 +8,8 @@ use Rattle.told.proofs.found.Goals as goal
 pub returns-in-Start : goal.returns-in-Start
 unfolding found_told
 returns-in-Start c =
-    let a = c.before.before.before in
-    let s = a.before.before.before.before in
-    let mode : capped s.args.mode ≡ s.args.mode = small_kept s.args.mode s.well_formed.0.1 in
-    rw (a.in-Start.is, c.capped.ensures, a.characters-told.ensures, c.accepted.ensures, mode) refl
+    let mode : capped c.args.mode ≡ c.args.mode = small_kept c.args.mode c.well_formed.0.1 in
+    rw (c.in-Start.is, c.capped.ensures, c.characters-told.ensures, c.accepted.ensures, mode) refl
 
 pub returns-in-Refused : goal.returns-in-Refused
 unfolding found_told

@@ -10,9 +10,8 @@ use Rattle.trial.proofs.run.Goals.{After-sent_count-sent}
 -- the tones written are within the output
 fits : (c : After-sent_count-sent) → c.sent_count-sent.result ≤ length c.encode_block-encoded.new.tones
 fits c =
-    let e = c.before.before.before in
-    let a = e.args in
-    rw (c.sent_count-sent.ensures, e.encode_block-encoded.ensures.answer, e.encode_block-encoded.ensures.output) (sent_fits a.mode a.text.now a.tones.now)
+    let a = c.args in
+    rw (c.sent_count-sent.ensures, c.encode_block-encoded.ensures.answer, c.encode_block-encoded.ensures.output) (sent_fits a.mode a.text.now a.tones.now)
 
 pub slice_bounds-replaced_in-end : goal.slice_bounds-replaced_in-end
 slice_bounds-replaced_in-end c = fits (goal.at.slice_bounds-replaced_in-end c).After-sent_count-sent
@@ -28,10 +27,4 @@ slice_bounds-decode_block-end-2 c = sym (length-take-le _ _ (fits (goal.at.slice
 
 pub returns : goal.returns
 returns c =
-    let second = c.before.before in
-    let first = second.before.before.before.before in
-    let missing = first.before.before.before in
-    let replaced = missing.before in
-    let sent = replaced.before.before in
-    let encoded = sent.before.before.before in
-    tried _ _ _ _ _ _ _ _ _ _ _ _ _ _ _ _ encoded.encode-block.ensures sent.sent_count.ensures replaced.replaced-in.ensures missing.missing-in.ensures first.decode_block-first.ensures second.decode_block-second.ensures
+    tried _ _ _ _ _ _ _ _ _ _ _ _ _ _ _ _ c.encode-block.ensures c.sent_count.ensures c.replaced-in.ensures c.missing-in.ensures c.decode_block-first.ensures c.decode_block-second.ensures

@@ -12,9 +12,8 @@ use Rattle.trial.proofs.run_weighted.Goals.{After-sent_count-sent}
 -- the tones written are within the output
 fits : (c : After-sent_count-sent) → c.sent_count-sent.result ≤ length c.encode_block-encoded.new.tones
 fits c =
-    let e = c.before.before.before in
-    let a = e.args in
-    rw (c.sent_count-sent.ensures, e.encode_block-encoded.ensures.answer, e.encode_block-encoded.ensures.output) (sent_fits a.mode a.text.now a.tones.now)
+    let a = c.args in
+    rw (c.sent_count-sent.ensures, c.encode_block-encoded.ensures.answer, c.encode_block-encoded.ensures.output) (sent_fits a.mode a.text.now a.tones.now)
 
 pub slice_bounds-damage_in-end : goal.slice_bounds-damage_in-end
 slice_bounds-damage_in-end c = fits (goal.at.slice_bounds-damage_in-end c).After-sent_count-sent
@@ -31,9 +30,4 @@ slice_bounds-decode_weighted-end-2 c = sym (length-take-le _ _ (fits (goal.at.sl
 pub returns : goal.returns
 unfolding throughout
 returns c =
-    let second = c.before.before in
-    let first = second.before.before.before.before in
-    let damage = first.before.before.before.before in
-    let sent = damage.before.before in
-    let encoded = sent.before.before.before in
-    weighted_tried _ _ _ _ _ _ _ _ _ _ _ _ _ _ _ _ _ encoded.encode-block.ensures sent.sent_count.ensures damage.damage-in.ensures first.decode_weighted-first.ensures second.decode_weighted-second.ensures refl
+    weighted_tried _ _ _ _ _ _ _ _ _ _ _ _ _ _ _ _ _ c.encode-block.ensures c.sent_count.ensures c.damage-in.ensures c.decode_weighted-first.ensures c.decode_weighted-second.ensures refl

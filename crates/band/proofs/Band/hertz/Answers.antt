@@ -1,4 +1,3 @@
-use borrow.Author.Rules.{rules}
 use Rattle.band.proofs.Formulas.{hertz_computed}
 use Rattle.band.proofs.Band.hertz.Goals as goal
 

@@ -1,5 +1,4 @@
 use mathlib.Core.Path.{refl}
-use borrow.Author.Rules.{rules}
 use Rattle.band.specs.Internal.{holds_in}
 use Rattle.band.proofs.Band.holds.Goals as goal
 

@@ -1,5 +1,4 @@
 use mathlib.Core.Path.{sym, ◌∙◌}
-use borrow.Author.Rules.{rules}
 use Rattle.band.proofs.Answers.{planned_band, planned_refused}
 use Rattle.band.proofs.Band.new.Goals as goal
 

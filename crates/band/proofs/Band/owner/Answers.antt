@@ -1,21 +1,17 @@
 -- The invariant: the measurement reaches the edge of `tone`, and not the one `count` tones further on.
 use mathlib.Core.Path.{◌≡◌, sym, ap, ◌∙◌, subst}
 use mathlib.Core.Bool.{Bool, true, false}
-use mathlib.Core.Logic.{⊎_elim}
 use Prim.Native.Nat.{ℕ, suc, ◌+◌, ◌-◌, ◌*◌, ◌/◌, ◌^◌, ◌<◌, ◌≤◌}
 use native.Mathlib.Nat.{pow-suc}
 use native.Mathlib.Omega.{arith}
-use borrow.Author.Rules.{rules}
 use lib.Ieee.{Float, le}
 use lib.Pow.{pow_mono}
 use Rattle.refusal.proofs.Limits.{mode_range, mode_tones}
 use Rattle.band.specs.Internal.{tone_edge_in, Between, OwnerIn}
 use Rattle.band.specs.declared.Band.{Band}
+use Rattle.band.proofs.Band.owner.Invariants.{Among}
 use Rattle.band.proofs.Band.owner.Goals as goal
-
-record Among (band : Band) (x : Float) (b tone count : ℕ) : Type 0 where
-  pub few : tone + count ≤ 2 ^ b
-  pub edges : Between band x tone (tone + count)
+use Rattle.band.proofs.Band.owner.Goals.{then-hertz-tone_edge, else-hertz-tone_edge}
 
 among_all : (band : Band) (x : Float) (b count : ℕ) → count ≡ 2 ^ b → Between band x 0 (2 ^ b) → Among band x b 0 count
 among_all band x b count e h =
@@ -49,14 +45,14 @@ among_one band x b tone count i l e a =
 pub loop-init : goal.loop-init
 loop-init c =
     let s = c.before in
-    let tones : c.tone_count-count.result ≡ 2 ^ s.args.mode = c.tone_count-count.ensures ∙ mode_tones s.args.mode s.requires.0 in
+    let tones : c.tone_count-count.result ≡ 2 ^ s.args.mode = c.tone_count-count.ensures ∙ mode_tones s.args.mode s.requires.mode_value in
     let none : s.args.mode - 0 ≡ s.args.mode = omega arith in
-    (omega arith, rw none tones, among_all s.args.self s.args.hertz s.args.mode c.tone_count-count.result tones s.requires.1)
+    (omega arith, rw none tones, among_all s.args.self s.args.hertz s.args.mode c.tone_count-count.result tones s.requires.between)
 
 pub overflow_add-next : goal.overflow_add-next
 overflow_add-next c =
     let s = c.before.before.before in
-    let few : 2 ^ s.args.mode ≤ 2 ^ 8 = pow_mono (mode_range s.args.mode s.requires.0).1 in
+    let few : 2 ^ s.args.mode ≤ 2 ^ 8 = pow_mono (mode_range s.args.mode s.requires.mode_value).1 in
     record { fits = omega (arith, c.loop.invariant.2.few) }
 
 pub overflow_step : goal.overflow_step
@@ -73,10 +69,10 @@ loop-preserved c =
     let among = subst (λ (n : ℕ). Among a.self a.hertz a.mode l.tone n) both l.invariant.2 in (
       omega arith,
       omega (arith, l.invariant.1, twice),
-      ⊎_elim
-          (λ w. upper_half a.self a.hertz a.mode l.tone half edge.result edge.ensures among c.if-hertz-tone_edge.tone w.1 w.0.taken)
-          (λ w. lower_half a.self a.hertz a.mode l.tone half edge.result edge.ensures among c.if-hertz-tone_edge.tone w.1 w.0.left)
-          c.if-hertz-tone_edge.branch,
+      elim c.if-hertz-tone_edge.branch [
+        | then-hertz-tone_edge w ↦ upper_half a.self a.hertz a.mode l.tone half edge.result edge.ensures among c.if-hertz-tone_edge.tone w.tone-is w.if-hertz-tone_edge.true
+        | else-hertz-tone_edge w ↦ lower_half a.self a.hertz a.mode l.tone half edge.result edge.ensures among c.if-hertz-tone_edge.tone w.tone-is w.if-hertz-tone_edge.false
+      ],
     )
 
 pub returns : goal.returns

@@ -1,17 +1,14 @@
 -- The invariant: the measurement reaches the edge of `tone`, and not the one `count` tones further on.
-use mathlib.Core.Path.{◌≡◌, sym, ap, ◌∙◌, subst}
-use mathlib.Core.Bool.{Bool, true, false}
-use mathlib.Core.Logic.{⊎_elim}
-use Prim.Native.Nat.{ℕ, suc, ◌+◌, ◌-◌, ◌*◌, ◌/◌, ◌^◌, ◌<◌, ◌≤◌}
-use native.Mathlib.Nat.{pow-suc}
-use native.Mathlib.Omega.{arith}
-use borrow.Author.Rules.{rules}
-use lib.Ieee.{Float, le}
-use lib.Pow.{pow_mono}
-use Rattle.refusal.proofs.Limits.{mode_range, mode_tones}
-use Rattle.band.specs.Internal.{tone_edge_in, Between, OwnerIn}
+use mathlib.Core.Path.{◌≡◌}
+use Prim.Native.Nat.{ℕ, ◌+◌, ◌-◌, ◌^◌, ◌≤◌}
+use lib.Ieee.{Float}
+use Rattle.band.specs.Internal.{Between}
 use Rattle.band.specs.declared.Band.{Band}
 use Rattle.band.proofs.Band.owner.Given as goal
+
+pub record Among (band : Band) (x : Float) (b tone count : ℕ) : Type 0 where
+  pub few : tone + count ≤ 2 ^ b
+  pub edges : Between band x tone (tone + count)
 
 abbrev pub invariant-loop : goal.invariant-loop
 invariant-loop l =

@@ -1,5 +1,4 @@
 use mathlib.Core.Path.{refl}
-use borrow.Author.Rules.{rules}
 use Rattle.band.specs.Internal.{tone_edge_in}
 use Rattle.band.proofs.Band.tone_edge.Goals as goal
 

@@ -1,4 +1,4 @@
-use Rattle.std.proofs.Common.{◌≡◌, true, not, T, rules}
+use Rattle.std.proofs.Common.{◌≡◌, true, not, T}
 use mathlib.Core.Bool.{false≢true}
 use lib.Ieee.{Float, nan, inf, fin, eq, is_nan}
 use Rattle.band_cases.proofs.lines.pattern.Goals as goal
@@ -10,9 +10,5 @@ no_nan nan e = absurd (false≢true e)
 no_nan (inf s) e = tt
 no_nan (fin s m e) h = tt
 
-pub float_to_bits-x : goal.float_to_bits-x
-float_to_bits-x c = no_nan _ c.if-x.true
-
--- no such goal: slice-aggregate-text
--- slice_aggregate_text : tie.Need-slice-aggregate-text
--- slice_aggregate_text c = search rules
+pub float_to_bits-bits : goal.float_to_bits-bits
+float_to_bits-bits g c = no_nan _ c.if-x.true

@@ -1,11 +1,7 @@
-use mathlib.Core.Path.{◌≡◌, sym, ◌∙◌}
-use Prim.Native.Nat.{◌≤◌, ◌-◌}
-use lib.Dec.{ltb}
+use mathlib.Core.Path.{sym, ◌∙◌}
 use borrow.Author.Rules.{rules}
 use borrow.Author.Tests.{lt-ltb, le-ltb}
-use Rattle.lists.specs.Places.{scan}
 use Rattle.lists.proofs.Places.{scan_start, scan_hit, scan_miss, scan_end}
-use Rattle.block_decoder.specs.Decoding.{lead_in}
 use Rattle.block_decoder.specs.Internal.{first_unclear_in}
 use Rattle.block_decoder.proofs.decode.first_unclear.Goals as goal
 
@@ -15,13 +11,11 @@ loop-q-init c = (search rules, scan_start _ _)
 
 pub returns-then-character-least_lead : goal.returns-then-character-least_lead
 returns-then-character-least_lead c =
-    let l = c.before.before.before.before in
-    sym (scan_hit _ l.loop-q.q _ c.loop-q-test.true (lt-ltb _ _ c.if-character-least_lead.true)) ∙ l.loop-q.invariant.1
+    sym (scan_hit _ c.loop-q.q _ c.loop-q-test.true (lt-ltb _ _ c.if-character-least_lead.true)) ∙ c.loop-q.invariant.1
 
 pub loop-q-preserved : goal.loop-q-preserved
 loop-q-preserved c =
-    let l = c.before.before.before.before in
-    (search rules, scan_miss _ l.loop-q.q _ c.loop-q-test.true (le-ltb _ _ c.if-character-least_lead.false) ∙ l.loop-q.invariant.1)
+    (search rules, scan_miss _ c.loop-q.q _ c.loop-q-test.true (le-ltb _ _ c.if-character-least_lead.false) ∙ c.loop-q.invariant.1)
 
 pub returns : goal.returns
 returns c = sym (scan_end _ c.loop-q.q _ c.loop-q-test.false) ∙ c.loop-q.invariant.1

@@ -1,10 +1,7 @@
-use mathlib.Core.Path.{◌≡◌, sym, ◌∙◌}
+use mathlib.Core.Path.{◌≡◌}
 use Prim.Native.Nat.{◌≤◌, ◌-◌}
 use lib.Dec.{ltb}
-use borrow.Author.Rules.{rules}
-use borrow.Author.Tests.{lt-ltb, le-ltb}
 use Rattle.lists.specs.Places.{scan}
-use Rattle.lists.proofs.Places.{scan_start, scan_hit, scan_miss, scan_end}
 use Rattle.block_decoder.specs.Decoding.{lead_in}
 use Rattle.block_decoder.specs.Internal.{first_unclear_in}
 use Rattle.block_decoder.proofs.decode.first_unclear.Given as goal

@@ -1,13 +1,8 @@
-use mathlib.Core.Path.{◌≡◌, refl, sym, ◌∙◌, ap}
-use Prim.Native.Nat.{◌+◌, ◌%◌, ◌≤◌, ◌-◌}
-use native.Mathlib.Omega.{arith}
-use lib.ListN.{length}
-use borrow.Author.Rules.{rules}
+use mathlib.Core.Path.{◌≡◌}
+use Prim.Native.Nat.{◌%◌, ◌≤◌, ◌-◌}
 use Rattle.lists.specs.Places.{scan}
-use Rattle.lists.proofs.Places.{scan_end, scan_most, scan_within, scan_beyond}
 use Rattle.tone_range.specs.Range.{bad_tone, first_bad_tone}
 use Rattle.block_decoder.specs.Internal.{seen_to}
-use Rattle.block_decoder.proofs.Seen.{seen_length}
 use Rattle.block_decoder.proofs.decode.look.Given as goal
 
 abbrev pub invariant-loop-t : goal.invariant-loop-t

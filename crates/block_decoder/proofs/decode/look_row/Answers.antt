@@ -1,18 +1,17 @@
 use mathlib.Core.Path.{◌≡◌, refl, sym, ◌∙◌}
 use mathlib.Core.Bool.{false}
-use mathlib.Core.Logic.{inl, inr, ⊎_elim}
-use Prim.Native.Nat.{◌+◌, ◌<◌, ◌≤◌, ◌-◌}
+use mathlib.Core.Logic.{inl, inr}
+use Prim.Native.Nat.{◌+◌, ◌<◌, ◌-◌}
 use native.Mathlib.Omega.{arith}
 use lib.ListN.{length}
 use borrow.Author.Rules.{rules}
-use Rattle.lists.specs.Places.{scan}
 use Rattle.lists.proofs.Places.{scan_hit, scan_miss, scan_end}
 use Rattle.tone_range.specs.Range.{bad_tone}
 use Rattle.tone_range.proofs.Ranges.{good_tone, bad_tone_lem}
 use Rattle.block_decoder.specs.Internal.{seen_to}
 use Rattle.block_decoder.proofs.Seen.{seen_length, put_symbol, put_none}
 use Rattle.block_decoder.proofs.decode.look_row.Goals as goal
-use Rattle.block_decoder.proofs.decode.look_row.Goals.{Start, At-loop-t, Joined-tone-limit}
+use Rattle.block_decoder.proofs.decode.look_row.Goals.{Start, At-loop-t, Joined-tone-limit, then-tone-limit, else-tone-limit+else-tone}
 
 pub loop-t-init : goal.loop-t-init
 loop-t-init c =
@@ -41,18 +40,17 @@ bounds-symbols-t-else-tone-limit c = omega (arith, length_kept (goal.at.bounds-s
 
 -- a tone that is passed over is in range, and its symbol is put down
 passed : (c : Joined-tone-limit) → let a = c.args in bad_tone a.limit a.tones.now c.loop-t.t ≡ false
-passed c = good_tone _ _ (⊎_elim (λ w. inl w.0.taken) (λ w. inr w.1.left) c.if-tone-limit.branch)
+passed c = good_tone _ _ (elim c.if-tone-limit.branch [ then-tone-limit w ↦ inl w.if-tone-limit.true | else-tone-limit+else-tone w ↦ inr w.if-tone.false ])
 
 put : (c : Joined-tone-limit) → c.if-tone-limit.symbols ≡ seen_to c.args.tones.now (c.loop-t.t + 1)
 put c =
     let l = c.loop-t in
-    let s = c.before.before.before.before in
-    let a = s.args in
-    let inside : l.t < 64 = omega (arith, s.requires.2) in
-    ⊎_elim
-    (λ w. w.2 ∙ put_symbol a.tones.now l.t l.symbols a.table.now inside l.invariant.3 (omega (arith, w.0.taken, s.requires.0)) s.requires.1)
-    (λ w. w.2 ∙ put_none a.tones.now l.t l.symbols inside l.invariant.3 w.1.left)
-    c.if-tone-limit.branch
+    let a = c.args in
+    let inside : l.t < 64 = omega (arith, c.requires.2) in
+    elim c.if-tone-limit.branch [
+      | then-tone-limit w ↦ w.symbols-is ∙ put_symbol a.tones.now l.t l.symbols a.table.now inside l.invariant.3 (omega (arith, w.if-tone-limit.true, c.requires.0)) c.requires.1
+      | else-tone-limit+else-tone w ↦ w.symbols-is ∙ put_none a.tones.now l.t l.symbols inside l.invariant.3 w.if-tone.false
+    ]
 
 pub loop-t-preserved : goal.loop-t-preserved
 loop-t-preserved c =

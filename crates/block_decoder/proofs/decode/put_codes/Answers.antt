@@ -1,11 +1,8 @@
 use mathlib.Core.Path.{◌≡◌, refl}
-use Prim.Native.Nat.{◌≤◌, ◌-◌}
 use native.Mathlib.Omega.{arith}
-use lib.ListN.{length, length-set}
+use lib.ListN.{length-set}
 use borrow.Author.Rules.{rules}
-use Rattle.lists.specs.Lists.{tab, over}
 use Rattle.lists.proofs.Fronts.{over_start, over_set}
-use Rattle.block_decoder.specs.Internal.{code_in}
 use Rattle.block_decoder.proofs.decode.put_codes.Goals as goal
 
 pub loop-q-init : goal.loop-q-init
@@ -13,8 +10,7 @@ loop-q-init c = (search rules, refl, over_start _ _)
 
 pub loop-q-preserved : goal.loop-q-preserved
 loop-q-preserved c =
-    let l = c.before.before in
-    (search rules, simp length-set l.loop-q.invariant.1, over_set 0 _ l.loop-q.q _ _ _ (omega arith) l.loop-q.invariant.2 refl)
+    (search rules, simp length-set c.loop-q.invariant.1, over_set 0 _ c.loop-q.q _ _ _ (omega arith) c.loop-q.invariant.2 refl)
 
 pub returns : goal.returns
 returns c = let e : c.loop-q.q ≡ c.args.count = omega arith in rw e at c.loop-q.invariant.2

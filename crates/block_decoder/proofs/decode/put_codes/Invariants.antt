@@ -1,10 +1,7 @@
-use mathlib.Core.Path.{◌≡◌, refl}
+use mathlib.Core.Path.{◌≡◌}
 use Prim.Native.Nat.{◌≤◌, ◌-◌}
-use native.Mathlib.Omega.{arith}
-use lib.ListN.{length, length-set}
-use borrow.Author.Rules.{rules}
+use lib.ListN.{length}
 use Rattle.lists.specs.Lists.{tab, over}
-use Rattle.lists.proofs.Fronts.{over_start, over_set}
 use Rattle.block_decoder.specs.Internal.{code_in}
 use Rattle.block_decoder.proofs.decode.put_codes.Given as goal
 

@@ -1,9 +1,8 @@
-use mathlib.Core.Path.{◌≡◌, sym, ◌∙◌}
-use Prim.Native.Nat.{◌+◌, ◌%◌, ◌-◌, ◌≤◌}
+use mathlib.Core.Path.{sym, ◌∙◌}
+use Prim.Native.Nat.{◌+◌, ◌%◌}
 use borrow.Author.Rules.{rules}
 use borrow.Author.Tests.{lt-ltb, le-ltb}
 use lib.Dec.{ltb}
-use Rattle.lists.specs.Places.{scan}
 use Rattle.lists.proofs.Places.{scan_start, scan_hit, scan_miss, scan_end}
 use Rattle.sender.specs.Queues.{ahead}
 use Rattle.sender.specs.State.{counts_in}

@@ -1,6 +1,5 @@
 use mathlib.Core.Path.{sym, ◌∙◌}
 use Rattle.sender.proofs.PlaceCases.{right_answered, wrong_refused}
-use borrow.Author.Rules.{rules}
 use Rattle.sender.proofs.counts.judge.Goals as goal
 
 pub returns-in-Right : goal.returns-in-Right

@@ -4,7 +4,6 @@ use Rattle.sender.specs.declared.Handed.TheVariants.{Refused}
 use Rattle.sender.specs.State.{counts_in}
 use Rattle.sender.proofs.Steps.{one_more_reserved}
 use Rattle.sender.proofs.PlaceCases.{refuses_depot, refuses_full, refuses_sum, takes_block}
-use borrow.Author.Rules.{rules}
 use Rattle.sender.proofs.counts.place.Goals as goal
 
 pub returns-then-depot-gt29 : goal.returns-then-depot-gt29

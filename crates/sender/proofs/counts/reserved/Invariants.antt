@@ -1,10 +1,6 @@
-use mathlib.Core.Path.{◌≡◌, refl}
+use mathlib.Core.Path.{◌≡◌}
 use Prim.Native.Nat.{◌*◌, ◌-◌, ◌≤◌, max}
-use native.Mathlib.Omega.{arith}
-use borrow.Author.Rules.{rules}
 use Rattle.lists.specs.Sums.{total}
-use Rattle.lists.proofs.Sums.{total_more}
-use Rattle.sender.specs.Queues.{reserved}
 use Rattle.sender.specs.State.{counts_in}
 use Rattle.sender.proofs.counts.reserved.Given as goal
 

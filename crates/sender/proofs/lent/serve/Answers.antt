@@ -15,9 +15,10 @@ use Rattle.sender.proofs.Filled.{part_codes}
 use Rattle.sender.proofs.Serving.{places_fit, place_there, oldest_there}
 use borrow.Author.Rules.{rules}
 use Rattle.sender.proofs.lent.serve.Goals as goal
+use Rattle.sender.proofs.lent.serve.Goals.{After-encode_block}
 
 pub overflow_cast-count : goal.overflow_cast-count
-overflow_cast-count c = let fits = c.slice_known-3-1.given 1530 in search rules
+overflow_cast-count c = search rules
 
 pub returns-then-count-gt150 : goal.returns-then-count-gt150
 returns-then-count-gt150 c =
@@ -41,43 +42,39 @@ returns-then-count-at c =
     }
 
 pub overflow_cast-mode : goal.overflow_cast-mode
-overflow_cast-mode c = let fits = c.slice_known-4-1.given (10 * c.place_of-at.result + 1) in search rules
+overflow_cast-mode c = search rules
 
--- the call, and the place of the block, its mode and its codes as the encoder gets them
-abbrev start : (c : goal.After-encode_block) → goal.Start
-start c = c.before.before
-
-abbrev at : (c : goal.After-encode_block) → ℕ
+-- the place of the block, its mode and its codes as the encoder gets them
+abbrev at : (c : After-encode_block) → ℕ
 at c = c.place_of-at.result
 
-abbrev its_mode : (c : goal.After-encode_block) → ℕ
-its_mode c = num (start c).args.state.now (10 * at c + 1)
+abbrev its_mode : (c : After-encode_block) → ℕ
+its_mode c = num c.args.state.now (10 * at c + 1)
 
-abbrev its_codes : (c : goal.After-encode_block) → List ℕ
-its_codes c = let from = 10 * at c + 2 in take (from + c.code_count.result - from) (drop from (start c).args.state.now)
+abbrev its_codes : (c : After-encode_block) → List ℕ
+its_codes c = let from = 10 * at c + 2 in take (from + c.code_count.result - from) (drop from c.args.state.now)
 
-codes_placed : (c : goal.After-encode_block) → its_codes c ≡ (place_in (start c).args.state.now (at c)).block.codes
+codes_placed : (c : After-encode_block) → its_codes c ≡ (place_in c.args.state.now (at c)).block.codes
 codes_placed c =
-    let place-fits : 10 * at c + 10 ≤ length (start c).args.state.now = omega (arith, (start c).requires.0) in
+    let place-fits : 10 * at c + 10 ≤ length c.args.state.now = omega (arith, c.requires.0) in
     let n = c.code_count in
-    part_codes (start c).args.state.now (at c) n.result place-fits n.ensures
+    part_codes c.args.state.now (at c) n.result place-fits n.ensures
 
 pub returns-in-Tones : goal.returns-in-Tones
 unfolding place_in is_block
 returns-in-Tones c =
-    let enc = c.before.before.before.before.before.before.before.before in
-    let s = start enc in
+    let enc = (goal.at.returns-in-Tones c).After-encode_block in
     let p = enc.place_of-at in
     let accepted = sym enc.encode_block.ensures.answer ∙ c.in-Tones.is in
     record {
       serves = λ q h some few ok.
-          let o = oldest_there q s.args.state.now s.args.depot h s.pre.1 some few p.result p.ensures in
+          let o = oldest_there q enc.args.state.now enc.args.depot h enc.requires.1 some few p.result p.ensures in
           record {
-            answered = ap (λ (b : Block). sent.Block s.args.depot b.mode) (sym o);
+            answered = ap (λ (b : Block). sent.Block enc.args.depot b.mode) (sym o);
             output =
                 enc.encode_block.ensures.output
-                ∙ ap (λ (codes : List ℕ). encoded_into (its_mode enc) codes s.args.tones.now) (codes_placed enc)
-                ∙ ap (λ (b : Block). encoded_into b.mode b.codes s.args.tones.now) (sym o);
+                ∙ ap (λ (codes : List ℕ). encoded_into (its_mode enc) codes enc.args.tones.now) (codes_placed enc)
+                ∙ ap (λ (b : Block). encoded_into b.mode b.codes enc.args.tones.now) (sym o);
             left = c.take_out.ensures.left q h some few p.ensures;
           };
       unrefused = λ r e. let z : ◌≡◌ {A = ℕ} 0 1 = cc in omega arith;
@@ -95,16 +92,15 @@ returns-in-Tones c =
 pub returns-in-Refused : goal.returns-in-Refused
 unfolding place_in
 returns-in-Refused c =
-    let enc = c.before.before.before.before in
-    let s = start enc in
+    let enc = (goal.at.returns-in-Refused c).After-encode_block in
     let p = enc.place_of-at in
     let refused = sym enc.encode_block.ensures.answer ∙ c.in-Refused.is in
     record {
       serves = λ q h some few ok.
-          let o = oldest_there q s.args.state.now s.args.depot h s.pre.1 some few p.result p.ensures in
+          let o = oldest_there q enc.args.state.now enc.args.depot h enc.requires.1 some few p.result p.ensures in
           let same =
-          ap (λ (codes : List ℕ). encode_block (its_mode enc) codes (length s.args.tones.now)) (codes_placed enc)
-          ∙ ap (λ (b : Block). encode_block b.mode b.codes (length s.args.tones.now)) (sym o) ∙ ok in
+          ap (λ (codes : List ℕ). encode_block (its_mode enc) codes (length enc.args.tones.now)) (codes_placed enc)
+          ∙ ap (λ (b : Block). encode_block b.mode b.codes (length enc.args.tones.now)) (sym o) ∙ ok in
           let z : ◌≡◌ {A = ℕ} 0 1 = cc in
           absurd (omega arith);
       unrefused = λ r e. let z : ◌≡◌ {A = ℕ} 0 1 = cc in omega arith;

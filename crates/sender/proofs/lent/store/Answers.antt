@@ -16,7 +16,7 @@ pub bounds-state-1530-then-count-lt150 : goal.bounds-state-1530-then-count-lt150
 bounds-state-1530-then-count-lt150 c =
     let s = c.before.before.before.before.before.before.before.before.before in
     let p = c.put in
-    omega (arith, length-set p.new.0 (1500 + s.args.depot) (num p.new.0 (1500 + s.args.depot) + 1), p.ensures.size)
+    omega (arith, length-set p.new.state (1500 + s.args.depot) (num p.new.state (1500 + s.args.depot) + 1), p.ensures.size)
 
 pub returns-then-count-lt150 : goal.returns-then-count-lt150
 returns-then-count-lt150 c =
@@ -24,7 +24,7 @@ returns-then-count-lt150 c =
     let p = c.put in
     record {
       left = λ q h free fits.
-          stored_holds q s.args.state.now s.args.depot (record { mode = s.args.mode; codes = s.args.codes.now }) p.new.0 h
+          stored_holds q s.args.state.now s.args.depot (record { mode = s.args.mode; codes = s.args.codes.now }) p.new.state h
           p.ensures s.requires.1 (omega arith) fits s.requires.3;
     }
 

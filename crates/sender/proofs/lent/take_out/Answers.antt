@@ -5,13 +5,12 @@ use native.Mathlib.Omega.{arith}
 use lib.ListN.{length, set, length-set}
 use Rattle.lists.specs.Lists.{num}
 use Rattle.sender.proofs.Serving.{served_holds}
-use borrow.Author.Rules.{rules}
 use Rattle.sender.proofs.lent.take_out.Goals as goal
 
 pub overflow_sub-state : goal.overflow_sub-state
 overflow_sub-state c =
     let s = c.before.before.before.before.before.before in
-    omega (arith, c.remove.ensures.beyond (1500 + s.args.depot) (omega arith), s.requires.1.1)
+    omega (arith, c.remove.ensures.beyond (1500 + s.args.depot) (omega arith), s.requires.block.1)
 
 -- the state without the block's place, with the depot's count
 abbrev counted : (c : goal.After-slice_known-3-1) → List ℕ
@@ -21,7 +20,7 @@ counted_size : (c : goal.After-slice_known-3-1) → length (counted c) ≡ 1532
 counted_size c =
     let r = c.remove in
     let own = 1500 + c.args.depot in
-    length-set r.new.0 own (num r.new.0 own - 1) ∙ r.ensures.size
+    length-set r.new.state own (num r.new.state own - 1) ∙ r.ensures.size
 
 pub bounds-state-1531 : goal.bounds-state-1531
 bounds-state-1531 c =
@@ -34,5 +33,5 @@ returns c =
     let r = c.remove in
     record {
       left = λ q h some few e.
-          rw s.requires.0.1 (served_holds q s.args.state.now s.args.depot h s.requires.1.0 some few s.args.at e r.new.0 (rw s.requires.0.1 at r.ensures));
+          rw s.requires.state.1 (served_holds q s.args.state.now s.args.depot h s.requires.block.0 some few s.args.at e r.new.state (rw s.requires.state.1 at r.ensures));
     }

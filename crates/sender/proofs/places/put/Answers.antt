@@ -1,9 +1,9 @@
-use mathlib.Core.Path.{◌≡◌, sym, ◌∙◌}
-use Prim.Native.Nat.{◌+◌, ◌*◌, ◌-◌, ◌≤◌}
+use mathlib.Core.Path.{◌≡◌}
+use Prim.Native.Nat.{◌*◌}
 use native.Mathlib.Omega.{arith}
 use borrow.Author.Rules.{rules}
-use lib.ListN.{length, set, length-set}
-use Rattle.sender.proofs.Bytes.{Coding, coding_start, coding_more, put_end}
+use lib.ListN.{length, length-set}
+use Rattle.sender.proofs.Bytes.{coding_start, coding_more, put_end}
 use Rattle.sender.proofs.places.put.Goals as goal
 
 pub loop-q-init : goal.loop-q-init

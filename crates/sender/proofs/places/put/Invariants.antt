@@ -1,9 +1,6 @@
-use mathlib.Core.Path.{◌≡◌, sym, ◌∙◌}
-use Prim.Native.Nat.{◌+◌, ◌*◌, ◌-◌, ◌≤◌}
-use native.Mathlib.Omega.{arith}
-use borrow.Author.Rules.{rules}
-use lib.ListN.{length, set, length-set}
-use Rattle.sender.proofs.Bytes.{Coding, coding_start, coding_more, put_end}
+use Prim.Native.Nat.{◌-◌, ◌≤◌}
+use lib.ListN.{length}
+use Rattle.sender.proofs.Bytes.{Coding}
 use Rattle.sender.proofs.places.put.Given as goal
 
 abbrev pub invariant-loop-q : goal.invariant-loop-q

@@ -1,7 +1,5 @@
-use Prim.Native.Nat.{◌*◌, ◌-◌}
 use native.Mathlib.Omega.{arith}
-use borrow.Author.Rules.{rules}
-use Rattle.sender.proofs.Bytes.{Moving, moving_more, moving_end}
+use Rattle.sender.proofs.Bytes.{moving_more, moving_end}
 use Rattle.sender.proofs.places.remove.Goals as goal
 
 pub loop-j-preserved : goal.loop-j-preserved

@@ -1,9 +1,7 @@
 -- Before each turn the bytes of the pattern that are passed took the bytes that are passed.
-use Prim.Native.Nat.{◌+◌, ◌-◌, ◌≤◌}
-use native.Mathlib.Omega.{arith}
-use borrow.Author.Rules.{rules}
+use Prim.Native.Nat.{◌-◌, ◌≤◌}
 use lib.ListN.{length}
-use Rattle.sentence.proofs.MatchCases.{Passed, passed_none, match_end, match_stops, match_more}
+use Rattle.sentence.proofs.MatchCases.{Passed}
 use Rattle.sentence.proofs.matching.match_pattern.Given as goal
 
 abbrev pub invariant-loop-i : goal.invariant-loop-i

@@ -1,8 +1,7 @@
 -- Before each turn the bytes passed are digits of the value.
 use Prim.Native.Nat.{◌-◌, ◌≤◌}
-use native.Mathlib.Omega.{arith}
 use lib.ListN.{length}
-use Rattle.sentence.proofs.ScanCases.{told_follows, told_digit, Scans, scans_none, scans_all, scans_stop, scans_more}
+use Rattle.sentence.proofs.ScanCases.{Scans}
 use Rattle.sentence.proofs.matching.scan.Given as goal
 
 abbrev pub invariant-loop-count : goal.invariant-loop-count

@@ -1,7 +1,6 @@
 -- Each answer is one of the cases of a piece.
 use mathlib.Core.Path.{◌∙◌}
 use native.Mathlib.Omega.{arith}
-use borrow.Author.Rules.{rules}
 use Rattle.sentence.proofs.PieceCases.{piece_at_place, piece_at_lead, piece_empty, piece_first}
 use Rattle.sentence.proofs.matching.take_piece.Goals as goal
 

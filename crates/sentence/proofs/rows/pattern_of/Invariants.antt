@@ -1,9 +1,7 @@
 -- Before each turn the rows that are left have the number's pattern.
-use Prim.Native.Nat.{◌+◌, ◌-◌, ◌≤◌}
-use native.Mathlib.Omega.{arith}
-use borrow.Author.Rules.{rules}
-use lib.ListN.{length, get_or}
-use Rattle.sentence.proofs.RowCases.{PatternLeft, pattern_start, pattern_none, pattern_head, pattern_found, pattern_later}
+use Prim.Native.Nat.{◌-◌, ◌≤◌}
+use lib.ListN.{length}
+use Rattle.sentence.proofs.RowCases.{PatternLeft}
 use Rattle.sentence.proofs.rows.pattern_of.Given as goal
 
 abbrev pub invariant-loop-at : goal.invariant-loop-at

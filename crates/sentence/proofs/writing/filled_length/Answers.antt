@@ -1,9 +1,7 @@
 -- Before each turn the sum is the length of the text of the bytes passed.
-use mathlib.Core.Path.{◌≡◌, refl, ap}
-use Prim.Native.Nat.{◌-◌, ◌*◌, ◌≤◌}
+use mathlib.Core.Path.{refl, ap}
 use native.Mathlib.Omega.{arith}
-use borrow.Author.Rules.{rules}
-use lib.ListN.{length, take, get_or}
+use lib.ListN.{length, get_or}
 use Rattle.sentence.specs.Patterns.{filled}
 use Rattle.sentence.proofs.Fillings.{text_short, filled_more_length, filled_all}
 use Rattle.sentence.proofs.writing.filled_length.Goals as goal

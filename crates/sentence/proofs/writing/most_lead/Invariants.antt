@@ -1,9 +1,7 @@
 -- Before each turn no byte passed is the lead's mark.
-use mathlib.Core.Path.{refl}
 use Prim.Native.Nat.{◌-◌, ◌≤◌}
-use native.Mathlib.Omega.{arith}
 use lib.ListN.{length}
-use Rattle.sentence.proofs.WriteCases.{NoLead, no_lead_more, lead_found, lead_none}
+use Rattle.sentence.proofs.WriteCases.{NoLead}
 use Rattle.sentence.proofs.writing.most_lead.Given as goal
 
 abbrev pub invariant-loop-i : goal.invariant-loop-i

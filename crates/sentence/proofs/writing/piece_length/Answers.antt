@@ -1,5 +1,4 @@
 use mathlib.Core.Path.{sym, ◌∙◌, ap}
-use borrow.Author.Rules.{rules}
 use lib.ListN.{length}
 use Rattle.sentence.proofs.Fillings.{text_at_place, text_at_lead, text_at_byte}
 use Rattle.sentence.proofs.writing.piece_length.Goals as goal

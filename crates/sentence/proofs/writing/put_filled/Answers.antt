@@ -1,10 +1,11 @@
 -- Before each turn the text of the bytes passed is put.
 use mathlib.Core.Path.{◌≡◌, refl}
-use Prim.Native.Nat.{◌+◌, ◌-◌, ◌≤◌}
+use mathlib.Core.List.{List}
+use Prim.Native.Nat.{ℕ, ◌<◌, ◌+◌, ◌≤◌}
 use native.Mathlib.Omega.{arith}
 use borrow.Author.Rules.{rules}
 use lib.ListN.{length, take, get_or}
-use Rattle.text.proofs.Puts.{Put, put_none, put_as, put_after, put_within, put_rest}
+use Rattle.text.proofs.Puts.{put_none, put_as, put_after, put_within, put_rest}
 use Rattle.sentence.specs.Patterns.{piece_text, filled}
 use Rattle.sentence.proofs.Fillings.{filled_more, filled_room, filled_all}
 use Rattle.sentence.proofs.writing.put_filled.Goals as goal
@@ -14,39 +15,43 @@ unfolding filled
 loop-i-init c = (omega arith, refl, put_none c.args.out.now)
 
 -- the next piece has room
-piece_room : (c : goal.In-loop-i) → let l = c.loop-i in let a = c.args in
-    l.at + length (piece_text a.place a.lead (get_or a.pattern.now l.i 0)) ≤ length a.out.now
-piece_room c =
-    let l = c.loop-i in
-    let a = c.args in
-    omega (arith, l.invariant.2.0, filled_room a.place a.lead a.pattern.now l.i (omega arith))
+piece_room : (place lead : ℕ) (ps out : List ℕ) (i at : ℕ) → at ≡ length (filled place lead (take i ps))
+    → length (filled place lead ps) ≤ length out → i < length ps → at + length (piece_text place lead (get_or ps i 0)) ≤ length out
+piece_room place lead ps out i at e room h = omega (arith, e, filled_room place lead ps i h)
 
 pub slice_bounds-put_piece-count : goal.slice_bounds-put_piece-count
-slice_bounds-put_piece-count c = put_within _ _ c.loop-i.invariant.2 (omega (arith, piece_room c.before))
+slice_bounds-put_piece-count c =
+    let l = c.loop-i in
+    let a = c.args in
+    put_within _ _ l.invariant.2 (omega (arith, piece_room a.place a.lead a.pattern.now a.out.now l.i l.at l.invariant.2.0 c.requires (omega arith)))
 
 pub slice_bounds-put_piece-start : goal.slice_bounds-put_piece-start
 slice_bounds-put_piece-start c = slice_bounds-put_piece-count c
 
 pub overflow_add-at : goal.overflow_add-at
 overflow_add-at c =
-    let p = c.before.before in
-    let i = p.before.before.before in
-    omega (arith, piece_room i, (put_rest _ _ i.loop-i.invariant.2 _ (piece_room i) p.put_piece-at.ensures).0)
+    let l = c.loop-i in
+    let a = c.args in
+    let room = piece_room a.place a.lead a.pattern.now a.out.now l.i l.at l.invariant.2.0 c.requires (omega arith) in
+    let e = c.put_piece-at.ensures in
+    omega (arith, room, (put_rest _ _ l.invariant.2 _ room (e.answer, e.output)).0)
 
 pub loop-i-preserved : goal.loop-i-preserved
 loop-i-preserved c =
-    let p = c.before.before in
-    let i = p.before.before.before in
-    let l = i.loop-i in
-    let a = i.args in
-    let put = l.invariant.2 in (
+    let l = c.loop-i in
+    let a = c.args in
+    let put = l.invariant.2 in
+    let room = piece_room a.place a.lead a.pattern.now a.out.now l.i l.at put.0 c.requires (omega arith) in
+    let e = c.put_piece-at.ensures in (
       omega arith,
       search rules,
       put_as a.out.now (filled_more a.place a.lead a.pattern.now l.i (omega arith))
-          (put_after _ _ put _ (put_rest _ _ put _ (piece_room i) p.put_piece-at.ensures)),
+          (put_after _ _ put _ (put_rest _ _ put _ room (e.answer, e.output))),
     )
 
 pub returns : goal.returns
 returns c =
     let l = c.loop-i in
-    let a = c.args in record { answer = (rw (filled_all a.place a.lead a.pattern.now l.i (omega arith)) at l.invariant.2).0; output = (rw (filled_all a.place a.lead a.pattern.now l.i (omega arith)) at l.invariant.2).1 }
+    let a = c.args in
+    let put = rw (filled_all a.place a.lead a.pattern.now l.i (omega arith)) at l.invariant.2 in
+    record { answer = put.0; output = put.1 }

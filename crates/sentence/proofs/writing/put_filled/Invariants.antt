@@ -1,12 +1,9 @@
 -- Before each turn the text of the bytes passed is put.
-use mathlib.Core.Path.{◌≡◌, refl}
-use Prim.Native.Nat.{◌+◌, ◌-◌, ◌≤◌}
-use native.Mathlib.Omega.{arith}
-use borrow.Author.Rules.{rules}
-use lib.ListN.{length, take, get_or}
-use Rattle.text.proofs.Puts.{Put, put_none, put_as, put_after, put_within, put_rest}
-use Rattle.sentence.specs.Patterns.{piece_text, filled}
-use Rattle.sentence.proofs.Fillings.{filled_more, filled_room, filled_all}
+use mathlib.Core.Path.{◌≡◌}
+use Prim.Native.Nat.{◌-◌, ◌≤◌}
+use lib.ListN.{length, take}
+use Rattle.text.proofs.Puts.{Put}
+use Rattle.sentence.specs.Patterns.{filled}
 use Rattle.sentence.proofs.writing.put_filled.Given as goal
 
 abbrev pub invariant-loop-i : goal.invariant-loop-i

@@ -1,7 +1,6 @@
 -- The refusals in their order, and then the text.
 use mathlib.Core.Path.{◌∙◌, ap}
 use native.Mathlib.Omega.{arith}
-use borrow.Author.Rules.{rules}
 use Rattle.sentence.specs.declared.Written.TheVariants.{Refused}
 use Rattle.sentence.proofs.WriteCases.{no_pattern, place_above, lead_above, no_room, room}
 use Rattle.sentence.proofs.writing.write.Goals as goal
@@ -33,9 +32,7 @@ returns c =
     let a = c.args in
     let lead = c.most_lead.ensures in
     let size = c.filled_length.ensures in
-    let put = c.put_filled in record {
-      answer = (room a.pattern.now a.place a.lead a.out.now (omega arith) (omega arith) (omega (arith, lead)) (omega (arith, size))
-          put.result _ put.ensures.0 put.ensures.1).0;
-      output = (room a.pattern.now a.place a.lead a.out.now (omega arith) (omega arith) (omega (arith, lead)) (omega (arith, size))
-          put.result _ put.ensures.0 put.ensures.1).1;
-    }
+    let put = c.put_filled in
+    let w = room a.pattern.now a.place a.lead a.out.now (omega arith) (omega arith) (omega (arith, lead)) (omega (arith, size))
+    put.result _ put.ensures.answer put.ensures.output in
+    record { answer = w.0; output = w.1 }

@@ -16,18 +16,17 @@ loop-t-init c = (search rules, search rules, refl)
 
 pub loop-t-preserved : goal.loop-t-preserved
 loop-t-preserved c =
-    let l = c.before.before.before in (
+    (
       search rules,
       ⊎_elim (λ w. omega arith) (λ w. omega arith) c.if-heard-t.branch,
       ⊎_elim
-          (λ w. tally_hit (is_missing l.args.heard.now) _ _ _ l.loop-t.invariant.2 (eq-eqb _ _ w.0.taken) w.1)
-          (λ w. tally_miss (is_missing l.args.heard.now) _ _ _ l.loop-t.invariant.2 (ne_eqb _ _ w.0.left) w.1)
+          (λ w. tally_hit (is_missing c.args.heard.now) _ _ _ c.loop-t.invariant.2 (eq-eqb _ _ w.0.taken) w.1)
+          (λ w. tally_miss (is_missing c.args.heard.now) _ _ _ c.loop-t.invariant.2 (ne_eqb _ _ w.0.left) w.1)
           c.if-heard-t.branch,
     )
 
 pub returns : goal.returns
 unfolding missing_in
 returns c =
-    let l = c.before in
-    let e : l.loop-t.t ≡ length l.args.heard.now = omega arith in
-    rw e at l.loop-t.invariant.2
+    let e : c.loop-t.t ≡ length c.args.heard.now = omega arith in
+    rw e at c.loop-t.invariant.2

@@ -16,13 +16,12 @@ loop-t-init c = (search rules, search rules, refl)
 
 pub loop-t-preserved : goal.loop-t-preserved
 loop-t-preserved c =
-    let l = c.before.before in
-    let p = is_replaced l.args.sent.now l.args.heard.now in (
+    let p = is_replaced c.args.sent.now c.args.heard.now in (
       search rules,
       ⊎_elim (λ w. omega arith) (λ w. omega arith) c.if-t-sent.branch,
       ⊎_elim
-          (λ w. tally_hit p _ _ _ l.loop-t.invariant.2 (rw (lt-ltb _ _ w.0.taken, w.2.taken, w.5.taken)) w.6)
-          (λ w. tally_miss p _ _ _ l.loop-t.invariant.2
+          (λ w. tally_hit p _ _ _ c.loop-t.invariant.2 (rw (lt-ltb _ _ w.0.taken, w.2.taken, w.5.taken)) w.6)
+          (λ w. tally_miss p _ _ _ c.loop-t.invariant.2
           (⊎_elim
           (λ v. rw (lt-ltb _ _ v.0.taken, v.2.taken, v.5.left))
           (⊎_elim (λ v. rw (lt-ltb _ _ v.0.taken, v.2.left)) (λ v. rw (le-ltb _ _ v.left)))
@@ -33,6 +32,5 @@ loop-t-preserved c =
 pub returns : goal.returns
 unfolding replaced_in
 returns c =
-    let l = c.before in
-    let e : l.loop-t.t ≡ length l.args.heard.now = omega arith in
-    rw e at l.loop-t.invariant.2
+    let e : c.loop-t.t ≡ length c.args.heard.now = omega arith in
+    rw e at c.loop-t.invariant.2

@@ -26,6 +26,5 @@ loop-t-preserved c =
 pub returns : goal.returns
 unfolding damage_in
 returns c =
-    let l = c.before in
-    let e : l.loop-t.t ≡ length l.args.heard.now = omega arith in
-    rw e at l.loop-t.invariant.1
+    let e : c.loop-t.t ≡ length c.args.heard.now = omega arith in
+    rw e at c.loop-t.invariant.1
