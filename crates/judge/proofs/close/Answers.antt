@@ -1,4 +1,4 @@
-use Rattle.std.proofs.Common.{sym, ◌∙◌, ap₂, rules}
+use Rattle.std.proofs.Common.{sym, ◌∙◌, ap₂}
 use Rattle.judge.specs.Judged.{settings_said, block_said}
 use Rattle.judge.proofs.StageCases.{closes_settings, closes_block, closes_stopped}
 use Rattle.stages.proofs.Tellings.{tells_as, tells_nothing}
@@ -6,18 +6,18 @@ use Rattle.judge.proofs.close.Goals as goal
 
 pub returns-in-Settings : goal.returns-in-Settings
 returns-in-Settings c =
-    let line = c.end_line.ensures in
+    let line = c.end_line-line.ensures in
     let t = tells_as
     c.args.out.now
-    (closes_settings _ _ c.enum_told-1.given.1 ∙ ap₂ settings_said (sym line.answer) (sym line.output))
+    (closes_settings _ _ c.in-Settings.is ∙ ap₂ settings_said (sym line.answer) (sym line.output))
     (c.take_settings.ensures.answer, c.take_settings.ensures.output) in record { answer = t.0; kept = line.output; output = t.1 }
 
 pub returns-in-Blocks : goal.returns-in-Blocks
 returns-in-Blocks c =
-    let line = c.end_line.ensures in
+    let line = c.end_line-line.ensures in
     let t = tells_as
     c.args.out.now
-    (closes_block _ _ c.enum_told-in-Blocks-1.given.1 ∙ ap₂ (block_said _ _ _) (sym line.answer) (sym line.output))
+    (closes_block _ _ c.in-Blocks.is ∙ ap₂ (block_said _ _ _) (sym line.answer) (sym line.output))
     (c.take_block.ensures.answer, c.take_block.ensures.output) in record { answer = t.0; kept = line.output; output = t.1 }
 
 pub returns-in-Stopped : goal.returns-in-Stopped

@@ -1,4 +1,4 @@
-use Rattle.std.proofs.Common.{sym, arith, length-take-le, rules}
+use Rattle.std.proofs.Common.{sym, arith, length-take-le}
 use Rattle.judge.proofs.decide.Goals as goal
 
 pub slice_bounds-decide_block-end : goal.slice_bounds-decide_block-end
