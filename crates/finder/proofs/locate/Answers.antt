@@ -3,8 +3,6 @@ use mathlib.Core.Bool.{true}
 use Prim.Native.Nat.{ℕ, ◌^◌}
 use native.Mathlib.Omega.{arith}
 use lib.ListN.{length}
-use borrow.Author.Rules.{rules}
-use borrow.Author.Tests.{not-true, not-false}
 use Rattle.refusal.specs.Checks.{is_mode, IsSet}
 use Rattle.refusal.specs.Refused.{refused_at}
 use Rattle.refusal.proofs.Limits.{within_range, mode_tones}
@@ -15,9 +13,8 @@ use Rattle.finder.specs.Finding.{is_run, first_start}
 use Rattle.finder.specs.declared.Finding.TheVariants.{Start, Refused}
 use Rattle.finder.proofs.Starts.{search_finds}
 use Rattle.finder.proofs.FindCases.{Passed, refuses_mode, refuses_lead, refuses_count, refuses_room, refuses_tone, tells_start, tells_none}
-use borrow.Author.Rules.{rules}
 use Rattle.finder.proofs.locate.Goals as goal
-use Rattle.finder.proofs.locate.Goals.{Else-not-is_mode, Else-not-is_lead, Else-not-is_run, Else-room-mode, After-struct_known-1, After-first_accepted-start}
+use Rattle.finder.proofs.locate.Goals.{Else-not-is_mode, Else-not-is_lead, Else-not-is_run, Else-room-mode, After-check-range, After-first_accepted-start}
 
 pub returns-then-not-is_mode : goal.returns-then-not-is_mode
 returns-then-not-is_mode c =
@@ -56,7 +53,7 @@ passed c =
     record { settings = settings; count = run_known; fits = c.if-room-mode.false }
 
 -- the range is that of the mode's tones
-range : (c : After-struct_known-1) → let a = c.args in c.check-range.result.bad ≡ first_bad_tone (2 ^ a.mode) a.run.now
+range : (c : After-check-range) → let a = c.args in c.check-range.result.bad ≡ first_bad_tone (2 ^ a.mode) a.run.now
 range c =
     let mode_known : is_mode c.args.mode ≡ true = sym c.is_mode.ensures ∙ c.if-not-is_mode.false in
     let settings : let a = c.args in IsSet a.mode a.least_lead = record { mode = mode_known; lead = sym c.is_lead.ensures ∙ c.if-not-is_lead.false } in
@@ -67,7 +64,7 @@ range c =
 
 pub returns-then-range-run : goal.returns-then-range-run
 returns-then-range-run c =
-    ap Refused (c.at-then-range-run.ensures ∙ ap (refused_at 8) (range (goal.at.returns-then-range-run c).After-struct_known-1)) ∙ sym (refuses_tone _ _ _ _ (passed (goal.at.returns-then-range-run c).Else-room-mode) (rw (range (goal.at.returns-then-range-run c).After-struct_known-1) at c.if-range-run.true))
+    ap Refused (c.at-then-range-run.ensures ∙ ap (refused_at 8) (range (goal.at.returns-then-range-run c).After-check-range)) ∙ sym (refuses_tone _ _ _ _ (passed (goal.at.returns-then-range-run c).Else-room-mode) (rw (range (goal.at.returns-then-range-run c).After-check-range) at c.if-range-run.true))
 
 -- the search finds the first start that is accepted
 start_known : (c : After-first_accepted-start) → let a = c.args in c.first_accepted-start.result ≡ first_start a.mode a.least_lead a.run.now a.room
@@ -88,9 +85,9 @@ overflow_sub-run c = omega (arith, (within_range 64 longest_run (length c.args.r
 pub returns-then-start-run : goal.returns-then-start-run
 returns-then-start-run c =
     ap Start (start_known (goal.at.returns-then-start-run c).After-first_accepted-start)
-    ∙ sym (tells_start _ _ _ _ (passed (goal.at.returns-then-start-run c).Else-room-mode) (rw (range (goal.at.returns-then-start-run c).After-struct_known-1) at c.if-range-run.false) (rw (start_known (goal.at.returns-then-start-run c).After-first_accepted-start) at c.if-start-run.true))
+    ∙ sym (tells_start _ _ _ _ (passed (goal.at.returns-then-start-run c).Else-room-mode) (rw (range (goal.at.returns-then-start-run c).After-check-range) at c.if-range-run.false) (rw (start_known (goal.at.returns-then-start-run c).After-first_accepted-start) at c.if-start-run.true))
 
 pub returns : goal.returns
 returns c =
     ap Refused c.at-2.ensures
-    ∙ sym (tells_none _ _ _ _ (passed (goal.at.returns c).Else-room-mode) (rw (range (goal.at.returns c).After-struct_known-1) at c.if-range-run.false) (rw (start_known (goal.at.returns c).After-first_accepted-start) at c.if-start-run.false))
+    ∙ sym (tells_none _ _ _ _ (passed (goal.at.returns c).Else-room-mode) (rw (range (goal.at.returns c).After-check-range) at c.if-range-run.false) (rw (start_known (goal.at.returns c).After-first_accepted-start) at c.if-start-run.false))
