@@ -14,7 +14,7 @@ use Rattle.decision.specs.declared.Character.{Character}
 use Rattle.decision.specs.contracts.Character.{the_type}
 use Rattle.block_report.proofs.TextBounds.{Small}
 
-pub held_small : (x : Character) (us : List Val) → shadow ((row the_type).own x us) → Small x
+pub held_small : (x : Character) (us : List Val) → shadow ((row the_type).own_val x us) → Small x
 held_small x us p = record {
   code = omega (arith, p.1.1.0.1);
   lead = omega (arith, p.1.1.1.0.1);
@@ -24,10 +24,10 @@ held_small x us p = record {
   next_correlation = omega (arith, nat_abs-le x.next_correlation p.1.1.1.1.1.1.1.0.1);
 }
 
-pub correlations_fit : (x : Character) (us : List Val) → shadow ((row the_type).own x us) → SFits w32 x.correlation × SFits w32 x.next_correlation
+pub correlations_fit : (x : Character) (us : List Val) → shadow ((row the_type).own_val x us) → SFits w32 x.correlation × SFits w32 x.next_correlation
 correlations_fit x us p = (record { sfits = p.1.1.1.1.1.0.1 }, record { sfits = p.1.1.1.1.1.1.1.0.1 })
 
-pub each_small : (xs : List Character) (us : List Val) (i : ℕ) → shadow (each Character (row the_type).own xs us) → Small (get_or xs i none)
+pub each_small : (xs : List Character) (us : List Val) (i : ℕ) → shadow (each Character (row the_type).own_val xs us) → Small (get_or xs i none)
 each_small [] us i p = record {
   code = omega arith;
   lead = omega arith;

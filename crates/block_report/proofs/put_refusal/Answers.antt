@@ -1,4 +1,3 @@
-use borrow.Author.Rules.{rules}
 use Rattle.block_report.proofs.BlockTexts.{text_unclear, text_refused}
 use Rattle.text.proofs.Puts.{put_as}
 use Rattle.report.proofs.Puts.{put_roomy}
@@ -6,8 +5,9 @@ use Rattle.block_report.proofs.put_refusal.Goals as goal
 
 pub returns-then-refusal-eq-UNCLEAR : goal.returns-then-refusal-eq-UNCLEAR
 returns-then-refusal-eq-UNCLEAR c =
-    let p = c.before.before in
-    let f = p.before.before in record { answer = (put_as _ (text_unclear _ _ _ f.if-refusal-eq-UNCLEAR.true) (rw f.character_at_lem.ensures at p.put_unclear.ensures)).0; output = (put_as _ (text_unclear _ _ _ f.if-refusal-eq-UNCLEAR.true) (rw f.character_at_lem.ensures at p.put_unclear.ensures)).1 }
+    let told = rw c.character_at-character.ensures at c.put_unclear.ensures.answer in
+    let told_2 = rw c.character_at-character.ensures at c.put_unclear.ensures.output in
+    let all = put_as _ (text_unclear _ _ _ c.if-refusal-eq-UNCLEAR.true) (told, told_2) in record { answer = all.0; output = all.1 }
 
 pub returns : goal.returns
-returns c = record { answer = (put_as _ (text_refused _ _ _ c.if-refusal-eq-UNCLEAR.false) (put_roomy _ _ c.requires c.Put-refused.ensures)).0; output = (put_as _ (text_refused _ _ _ c.if-refusal-eq-UNCLEAR.false) (put_roomy _ _ c.requires c.Put-refused.ensures)).1 }
+returns c = let all = put_as _ (text_refused _ _ _ c.if-refusal-eq-UNCLEAR.false) (put_roomy _ _ c.requires (c.put_refused.ensures.answer, c.put_refused.ensures.output)) in record { answer = all.0; output = all.1 }

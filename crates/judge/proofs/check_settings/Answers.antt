@@ -1,54 +1,30 @@
-use Rattle.std.proofs.Common.{sym, ◌∙◌, rules}
-use borrow.Author.Tests.{not-true, not-false}
+use Rattle.std.proofs.Common.{sym, ◌∙◌}
 use Rattle.judge.proofs.StageCases.{says_mode, says_lead, says_nothing}
 use Rattle.stages.proofs.Tellings.{tells_as, tells_nothing}
 use Rattle.judge.proofs.check_settings.Goals as goal
 
 pub returns-then-not-is_mode : goal.returns-then-not-is_mode
 returns-then-not-is_mode c =
-    let p = c.before.before in
-    let t = p.before.before in record { answer = (tells_as t.args.out.now (says_mode _ _ (sym t.is_mode.ensures ∙ not-true _ t.if-not-is_mode.true-raw)) p.refuse.ensures).0; output = (tells_as t.args.out.now (says_mode _ _ (sym t.is_mode.ensures ∙ not-true _ t.if-not-is_mode.true-raw)) p.refuse.ensures).1 }
+    let all = tells_as c.args.out.now (says_mode _ _ (sym c.is_mode.ensures ∙ c.if-not-is_mode.true)) (c.refuse.ensures.answer, c.refuse.ensures.output) in record { answer = all.0; output = all.1 }
 
 pub returns-then-not-is_lead : goal.returns-then-not-is_lead
 returns-then-not-is_lead c =
-    let p = c.before.before in
-    let t = p.before.before in record {
-      answer = (tells_as
-          t.args.out.now
-          (says_lead
-          _
-          _
-          (sym t.is_mode.ensures ∙ not-false _ t.if-not-is_mode.false-raw)
-          (sym t.is_lead.ensures ∙ not-true _ t.if-not-is_lead.true-raw))
-          p.refuse-then-not-is_lead.ensures).0;
-      output = (tells_as
-          t.args.out.now
-          (says_lead
-          _
-          _
-          (sym t.is_mode.ensures ∙ not-false _ t.if-not-is_mode.false-raw)
-          (sym t.is_lead.ensures ∙ not-true _ t.if-not-is_lead.true-raw))
-          p.refuse-then-not-is_lead.ensures).1;
-    }
+    let all = tells_as
+    c.args.out.now
+    (says_lead
+    _
+    _
+    (sym c.is_mode.ensures ∙ c.if-not-is_mode.false)
+    (sym c.is_lead.ensures ∙ c.if-not-is_lead.true))
+    (c.refuse-then-not-is_lead.ensures.answer, c.refuse-then-not-is_lead.ensures.output) in record { answer = all.0; output = all.1 }
 
 pub returns : goal.returns
 returns c =
-    let t = c.before in
-    let out = t.args.out.now in record {
-      answer = (tells_as
-          out
-          (says_nothing
-          _
-          _
-          (sym t.is_mode.ensures ∙ not-false _ t.if-not-is_mode.false-raw)
-          (sym t.is_lead.ensures ∙ not-false _ t.if-not-is_lead.false-raw))
-          (tells_nothing out c.before_line.ensures)).0;
-      output = (tells_as
-          out
-          (says_nothing
-          _
-          _
-          (sym t.is_mode.ensures ∙ not-false _ t.if-not-is_mode.false-raw)
-          (sym t.is_lead.ensures ∙ not-false _ t.if-not-is_lead.false-raw))
-          (tells_nothing out c.before_line.ensures)).1;
-    }
+    let out = c.args.out.now in let all = tells_as
+    out
+    (says_nothing
+    _
+    _
+    (sym c.is_mode.ensures ∙ c.if-not-is_mode.false)
+    (sym c.is_lead.ensures ∙ c.if-not-is_lead.false))
+    (tells_nothing out c.before_line.ensures) in record { answer = all.0; output = all.1 }

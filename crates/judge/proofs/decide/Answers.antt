@@ -1,7 +1,6 @@
-use Rattle.std.proofs.Common.{sym, arith, length-take-le, rules}
+use Rattle.std.proofs.Common.{sym, arith, length-take-le}
 use Rattle.judge.proofs.decide.Goals as goal
 
 pub slice_bounds-decide_block-end : goal.slice_bounds-decide_block-end
 slice_bounds-decide_block-end c =
-    let a = c.before in
-    sym (length-take-le a.args.count a.args.tones.now (omega (arith, a.requires)))
+    sym (length-take-le c.args.count c.args.tones.now (omega (arith, c.requires)))

@@ -1,4 +1,3 @@
-use Rattle.std.proofs.Common.{rules}
 use Rattle.judge.proofs.goes_on.Goals as goal
 
 pub returns-in-Text : goal.returns-in-Text

@@ -1,4 +1,3 @@
-use Rattle.std.proofs.Common.{rules}
 use Rattle.judge.proofs.is_pair.Goals as goal
 
 pub returns-then-is_readable : goal.returns-then-is_readable

@@ -4,8 +4,4 @@ use lib.Seq.{length-take-le}
 use Rattle.list.proofs.tell.Goals as goal
 
 pub slice_bounds-write_all-end : goal.slice_bounds-write_all-end
-slice_bounds-write_all-end c = sym (length-take-le _ _ c.before.requires)
-
--- no such goal: slice-aggregate-fail
--- slice_aggregate_fail : tie.Need-slice-aggregate-fail
--- slice_aggregate_fail c = search rules
+slice_bounds-write_all-end c = sym (length-take-le _ _ c.requires)

@@ -16,8 +16,7 @@ loop-from-init c = (c.requires.0, omega arith, c.requires.1, refl, hears_begun _
 
 pub returns-then-bytes-at : goal.returns-then-bytes-at
 returns-then-bytes-at c =
-    let g = c.before.before in
-    let l = g.loop-from in record { answer = (tells_within _ _ _ _ _ _ _ _ _ l.invariant.4 g.read_from-within.ensures.answer g.read_from-within.ensures.kept c.if-bytes-at.true).0; kept = (tells_within _ _ _ _ _ _ _ _ _ l.invariant.4 g.read_from-within.ensures.answer g.read_from-within.ensures.kept c.if-bytes-at.true).1; output = (tells_within _ _ _ _ _ _ _ _ _ l.invariant.4 g.read_from-within.ensures.answer g.read_from-within.ensures.kept c.if-bytes-at.true).2 }
+    let l = c.loop-from in let all = tells_within _ _ _ _ _ _ _ _ _ l.invariant.4 c.read_from-within.ensures.answer c.read_from-within.ensures.kept c.if-bytes-at.true in record { answer = all.0; kept = all.1; output = all.2 }
 
 pub overflow_add-end : goal.overflow_add-end
 overflow_add-end c = let l = c.loop-from in omega (arith, l.invariant, l.invariant.4.paid)
@@ -27,10 +26,10 @@ slice_bounds-close-end c = let l = c.loop-from in omega (arith, l.invariant, l.i
 
 module _ (k : goal.After-close-said) where
   abbrev g : goal.After-read_from-within
-  g = k.before.before.before.before.before
+  g = k
 
   abbrev l : goal.At-loop-from
-  l = g.before.before.before
+  l = g
 
   -- the part of the output that a line's text has
   abbrev part : List ℕ
@@ -40,30 +39,28 @@ module _ (k : goal.After-close-said) where
   closes : let said = closed g.read-from.result.listing g.read-from.last.1.1.1.0 in (k.close.result ≡ told said) × (k.close.last.1.1.0 ≡ over said.text part)
   closes =
       let size = length-take (l.loop.written + 1024 - l.loop.written) (drop l.loop.written l.loop.out) in
-      tells_whole part _ (omega (arith, l.loop.inv, l.loop.inv.4.paid, size, length-drop l.loop.written l.loop.out)) (k.close.ensures.0, k.close.ensures.1.1)
+      tells_whole part _ (omega (arith, l.loop.inv, l.loop.inv.4.paid, size, length-drop l.loop.written l.loop.out)) (k.close.ensures.answer, k.close.ensures.output)
 
 pub overflow_add-written : goal.overflow_add-written
 overflow_add-written c =
-    let k = c.before.before.before.before in
-    let l = (l k).loop in
-    let said = said_within (closed _ _) (l.written + 1024 - l.written) (drop l.written l.out) (closes k).0 (closes k).1 k.close-said.auto.1.1.0 in
+    let l = (l c).loop in
+    let said = said_within (closed _ _) (l.written + 1024 - l.written) (drop l.written l.out) (closes c).0 (closes c).1 c.close-said.auto.1.1.0 in
     omega (arith, l.inv, l.inv.4.paid, said)
 
 pub loop-from-smaller : goal.loop-from-smaller
-loop-from-smaller c = let g = c.before.before.before.before.before.before.before.before.before in omega (arith, place_after _ _ _ g.read_from-within.ensures.answer)
+loop-from-smaller c = omega (arith, place_after _ _ _ c.read_from-within.ensures.answer)
 
 pub loop-from-preserved : goal.loop-from-preserved
 loop-from-preserved c =
-    let k = c.before.before.before.before in
-    let l = (l k).loop in
-    let read = (g k).read-from.ensures in (
+    let l = (l c).loop in
+    let read = (g c).read-from.ensures in (
       l.inv.0,
       omega arith,
       l.inv.2,
       search rules,
       hears_line _ _ _ _ _ _ _ _ _ l.inv.4 read.0 read.1 (l.written + 1024 - l.written) (omega arith) (omega arith)
-          (closes k).0 k.close-said.ensures.kept.0 (closes k).1 k.close-said.auto.1.1.0,
+          (closes c).0 c.close-said.ensures.kept.0 (closes c).1 c.close-said.auto.1.1.0,
     )
 
 pub returns : goal.returns
-returns c = let l = c.loop-from in record { answer = (tells_all _ _ _ _ _ _ _ _ _ l.invariant.4 (omega arith)).0; kept = (tells_all _ _ _ _ _ _ _ _ _ l.invariant.4 (omega arith)).1; output = (tells_all _ _ _ _ _ _ _ _ _ l.invariant.4 (omega arith)).2 }
+returns c = let l = c.loop-from in let all = tells_all _ _ _ _ _ _ _ _ _ l.invariant.4 (omega arith) in record { answer = all.0; kept = all.1; output = all.2 }

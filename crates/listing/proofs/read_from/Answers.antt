@@ -6,6 +6,5 @@ use Rattle.listing.proofs.read_from.Goals as goal
 pub returns : goal.returns
 unfolding tones_read
 returns c =
-    let r = c.before in
-    let marks = r.takes_marks.ensures in
-    let read = r.read_line-stretch.ensures in record { answer = read_as _ _ _ (rw marks at read.0); kept = rw marks at read.1 }
+    let marks = c.takes_marks.ensures in
+    let read = c.read_line-stretch.ensures in record { answer = read_as _ _ _ (rw marks at read.answer); kept = rw marks at read.output }

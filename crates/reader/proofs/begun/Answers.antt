@@ -1,4 +1,3 @@
-use borrow.Author.Rules.{rules}
 use mathlib.Core.Path.{ap}
 use native.Mathlib.Omega.{arith}
 use Rattle.reader.specs.declared.Word.{Word}
@@ -6,4 +5,4 @@ use Rattle.reader.proofs.begun.Goals as goal
 
 pub returns : goal.returns
 returns c =
-    let line = c.args.line in record { answer = ap (λ (w : Word). record { word = w; count = line.count }) c.number_of_lem.ensures; small = omega arith }
+    let line = c.args.line in record { answer = ap (λ (w : Word). record { word = w; count = line.count }) c.number_of.ensures; small = omega arith }

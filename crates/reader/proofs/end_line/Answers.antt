@@ -1,4 +1,3 @@
-use borrow.Author.Rules.{rules}
 use mathlib.Core.Path.{◌∙◌, sym, ap}
 use Rattle.reader.specs.declared.Line.{Line}
 use Rattle.reader.specs.Reader.{word_end, kept_tone}
@@ -9,12 +8,11 @@ pub returns-then-is_blank : goal.returns-then-is_blank
 returns-then-is_blank c = let e = blank_ends _ _ (sym c.is_blank.ensures ∙ c.if-is_blank.true) in record { answer = sym e.0; output = sym e.1 }
 
 pub line_of-requires : goal.line_of-requires
-line_of-requires c = c.end_word-ended.ensures.small.0
+line_of-requires c = c.end_word-ended.ensures.small
 
 pub returns : goal.returns
 returns c =
-    let s = c.before.before.before in
-    let a = s.args in
-    let e = begun_ends a.line a.tones.now (sym s.is_blank.ensures ∙ s.if-is_blank.false) in
+    let a = c.args in
+    let e = begun_ends a.line a.tones.now (sym c.is_blank.ensures ∙ c.if-is_blank.false) in
     let ended = c.end_word-ended.ensures in
-    let line = s.begun.ensures.answer in record { answer = c.Line-of.ensures ∙ ended.0 ∙ ap word_end line ∙ sym e.0; output = ended.1.1 ∙ ap (λ (l : Line). kept_tone l a.tones.now) line ∙ sym e.1 }
+    let line = c.begun.ensures.answer in record { answer = c.line_of.ensures ∙ ended.answer ∙ ap word_end line ∙ sym e.0; output = ended.output ∙ ap (λ (l : Line). kept_tone l a.tones.now) line ∙ sym e.1 }

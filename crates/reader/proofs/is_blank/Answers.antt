@@ -1,4 +1,3 @@
-use borrow.Author.Rules.{rules}
 use Rattle.reader.proofs.is_blank.Goals as goal
 
 pub returns-then-is_empty : goal.returns-then-is_empty

@@ -1,4 +1,3 @@
-use borrow.Author.Rules.{rules}
 use mathlib.Core.Path.{ap}
 use Rattle.reader.specs.declared.Word.{Word}
 use Rattle.reader.proofs.with_digit.Goals as goal

@@ -1,5 +1,3 @@
-use borrow.Author.Rules.{rules}
-use borrow.Author.Tests.{not-true, not-false}
 use native.Mathlib.Omega.{arith}
 use Rattle.reader.proofs.ReaderCases.{word_number, word_empty, word_unreadable, mark_within}
 use Rattle.reader.proofs.with_mark.Goals as goal

@@ -1,4 +1,3 @@
-use borrow.Author.Rules.{rules}
 use mathlib.Core.Path.{sym, ap, ◌∙◌}
 use mathlib.Core.Bool.{Bool, cond}
 use Rattle.reader.specs.declared.Word.{Word}
@@ -11,11 +10,11 @@ use Rattle.reader.proofs.with_other.Goals as goal
 pub returns-then-byte-eq-SPACE : goal.returns-then-byte-eq-SPACE
 returns-then-byte-eq-SPACE c =
     let e = at_space _ _ _ _ c.if-byte-eq-SPACE.true in
-    let ended = c.end_word.ensures in record { answer = ((ended.0 ∙ sym e.0, (ended.1.0, ended.1.1 ∙ sym e.1))).0; small = ((ended.0 ∙ sym e.0, (ended.1.0, ended.1.1 ∙ sym e.1))).1; output = ((ended.0 ∙ sym e.0, (ended.1.0, ended.1.1 ∙ sym e.1))).2 }
+    let ended = c.end_word.ensures in record { answer = ended.answer ∙ sym e.0; small = ended.small; output = ended.output ∙ sym e.1 }
 
 pub returns : goal.returns
 returns c =
     let a = c.args in
     let e = in_word (line_of a.reading) a.tones.now a.marks a.byte c.if-byte-eq-SPACE.false in
     let word = c.with_mark.ensures ∙ ap (λ (t : Bool). cond t (with_mark (word_of a.reading.word)) Unreadable) c.is_mark.ensures
-    ∙ sym (at_other a.marks (word_of a.reading.word) a.byte c.requires.1) in record { answer = ((ap (λ (w : Word). record { word = w; count = a.reading.count }) word ∙ sym e.0, (c.requires.0, sym e.1))).0; small = ((ap (λ (w : Word). record { word = w; count = a.reading.count }) word ∙ sym e.0, (c.requires.0, sym e.1))).1; output = ((ap (λ (w : Word). record { word = w; count = a.reading.count }) word ∙ sym e.0, (c.requires.0, sym e.1))).2 }
+    ∙ sym (at_other a.marks (word_of a.reading.word) a.byte c.requires.1) in record { answer = ap (λ (w : Word). record { word = w; count = a.reading.count }) word ∙ sym e.0; small = c.requires.0; output = sym e.1 }

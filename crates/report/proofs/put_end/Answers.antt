@@ -1,5 +1,4 @@
 use native.Mathlib.Omega.{arith}
-use borrow.Author.Rules.{rules}
 use Rattle.lists.specs.Lists.{tab}
 use Rattle.text.specs.Ascii.{ascii, line_feed}
 use Rattle.text.proofs.Decimals.{field_length}
@@ -9,19 +8,10 @@ use Rattle.report.proofs.Puts.{put_short, put_fitting}
 use Rattle.report.proofs.put_end.Goals as goal
 
 pub returns-then-out-lt-ROOM : goal.returns-then-out-lt-ROOM
-returns-then-out-lt-ROOM c = record { answer = (put_short _ _ c.if-out-lt-ROOM.true).0; output = (put_short _ _ c.if-out-lt-ROOM.true).1 }
-
--- no such goal: slice-aggregate-put-labelled
--- slice_aggregate_put_labelled : tie.Need-slice-aggregate-put-labelled
--- slice_aggregate_put_labelled c = search rules
+returns-then-out-lt-ROOM c = let all = put_short _ _ c.if-out-lt-ROOM.true in record { answer = all.0; output = all.1 }
 
 pub returns : goal.returns
 unfolding end_text ascii tab
 returns c =
-    let l = c.before.before in
-    let s = l.before.before.before.before.before in record {
-      answer = (put_fitting (end_text s.args.blocks) s.args.out.now c.if-out-lt-ROOM.false
-          (put_whole (end_text s.args.blocks) s.args.out.now (omega (arith, field_length s.args.blocks line_feed (omega arith))) l.put_labelled.ensures)).0;
-      output = (put_fitting (end_text s.args.blocks) s.args.out.now c.if-out-lt-ROOM.false
-          (put_whole (end_text s.args.blocks) s.args.out.now (omega (arith, field_length s.args.blocks line_feed (omega arith))) l.put_labelled.ensures)).1;
-    }
+    let all = put_fitting (end_text c.args.blocks) c.args.out.now c.if-out-lt-ROOM.false
+    (put_whole (end_text c.args.blocks) c.args.out.now (omega (arith, field_length c.args.blocks line_feed (omega arith))) (c.put_labelled.ensures.answer, c.put_labelled.ensures.output)) in record { answer = all.0; output = all.1 }

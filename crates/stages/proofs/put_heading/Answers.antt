@@ -1,4 +1,3 @@
-use borrow.Author.Rules.{rules}
 use native.Mathlib.Omega.{arith}
 use Rattle.lists.specs.Lists.{tab}
 use Rattle.text.specs.Ascii.{ascii}
@@ -6,10 +5,6 @@ use Rattle.report.specs.Output.{heading}
 use Rattle.text.proofs.Puts.{put_whole}
 use Rattle.stages.proofs.put_heading.Goals as goal
 
--- no such goal: slice-aggregate-put-text
--- slice_aggregate_put_text : tie.Need-slice-aggregate-put-text
--- slice_aggregate_put_text c = search rules
-
 pub returns : goal.returns
 unfolding heading ascii tab
-returns c = record { answer = (put_whole heading c.args.out.now (omega arith) c.put_text.ensures).0; output = (put_whole heading c.args.out.now (omega arith) c.put_text.ensures).1 }
+returns c = let all = put_whole heading c.args.out.now (omega arith) (c.put_text.ensures.answer, c.put_text.ensures.output) in record { answer = all.0; output = all.1 }

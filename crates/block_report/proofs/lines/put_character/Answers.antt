@@ -1,44 +1,35 @@
 -- The words are put into what the rest of the line leaves of the output.
-use Prim.Native.Nat.{◌≤◌}
 use native.Mathlib.Omega.{arith}
-use borrow.Author.Rules.{rules}
-use lib.ListN.{length}
-use Rattle.block_report.specs.Lines.{words_text, character_text}
-use Rattle.block_report.proofs.TextBounds.{decided_length, words_length, Small}
+use Rattle.block_report.specs.Lines.{character_text}
+use Rattle.block_report.proofs.TextBounds.{decided_length, words_length}
 use Rattle.block_report.proofs.Elements.{held_small}
 use Rattle.text.proofs.Puts.{put_after, put_within, put_room}
 use Rattle.block_report.proofs.lines.put_character.Goals as goal
 
-small : (s : goal.Start) → Small s.args.character
-small s = held_small s.args.character _ s.well_formed.1.1.0
-
-first_short : (c : goal.After-put_decided-words) → c.put_decided-words.result ≤ 64
-first_short c =
-    let s = c.before.before.before in
-    omega (arith, c.put_decided-words.ensures.answer, decided_length s.args.character (small s) s.args.block s.args.q (omega arith) (omega arith))
-
-second_short : (c : goal.After-put_decided-words) → length (words_text c.args.character) ≤ 46
-second_short c = let s = c.before.before.before in words_length s.args.character (small s)
-
 pub slice_bounds-put_words-count : goal.slice_bounds-put_words-count
 slice_bounds-put_words-count c =
-    let f = c.before.before in
-    put_within _ _ f.put_decided-words.ensures (omega (arith, first_short f))
+    let a = c.args in
+    let small = held_small a.character _ c.well_formed.1.1.0 in
+    let short = decided_length a.character small a.block a.q (omega arith) (omega arith) in
+    put_within _ _ (c.put_decided-words.ensures.answer, c.put_decided-words.ensures.output) (omega (arith, c.put_decided-words.ensures.answer, short))
 
 pub slice_bounds-put_words-start : goal.slice_bounds-put_words-start
 slice_bounds-put_words-start c = slice_bounds-put_words-count c
 
 pub put_words-requires : goal.put_words-requires
 put_words-requires c =
-    let f = c.before.before.before in
-    put_room _ _ f.put_decided-words.ensures 46 (omega (arith, first_short f))
+    let a = c.args in
+    let small = held_small a.character _ c.well_formed.1.1.0 in
+    let short = decided_length a.character small a.block a.q (omega arith) (omega arith) in
+    put_room _ _ (c.put_decided-words.ensures.answer, c.put_decided-words.ensures.output) 46 (omega (arith, c.put_decided-words.ensures.answer, short))
 
 pub overflow_add-result : goal.overflow_add-result
 overflow_add-result c =
-    let g = c.before.before in
-    let f = g.before.before.before.before in
-    omega (arith, first_short f, g.put_words.ensures.answer, second_short f)
+    let a = c.args in
+    let small = held_small a.character _ c.well_formed.1.1.0 in
+    let short = decided_length a.character small a.block a.q (omega arith) (omega arith) in
+    omega (arith, c.put_decided-words.ensures.answer, short, c.put_words.ensures.answer, words_length a.character small)
 
 pub returns : goal.returns
 unfolding character_text
-returns c = record { answer = (put_after _ _ c.put_decided-words.ensures _ c.put_words.ensures).0; output = (put_after _ _ c.put_decided-words.ensures _ c.put_words.ensures).1 }
+returns c = let all = put_after _ _ (c.put_decided-words.ensures.answer, c.put_decided-words.ensures.output) _ (c.put_words.ensures.answer, c.put_words.ensures.output) in record { answer = all.0; output = all.1 }

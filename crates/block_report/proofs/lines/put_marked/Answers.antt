@@ -1,8 +1,7 @@
 -- The mark and the lead are put into what the place leaves of the output.
 use mathlib.Core.List.{◌++◌}
-use Prim.Native.Nat.{◌≤◌}
+use Prim.Native.Nat.{ℕ, ◌<◌, ◌^◌, ◌≤◌}
 use native.Mathlib.Omega.{arith}
-use borrow.Author.Rules.{rules}
 use lib.ListN.{length}
 use Rattle.lists.specs.Lists.{tab}
 use Rattle.text.specs.Ascii.{ascii, space}
@@ -13,40 +12,33 @@ use Rattle.block_report.proofs.TextBounds.{pair_length}
 use Rattle.text.proofs.Puts.{put_after, put_within, put_rest}
 use Rattle.block_report.proofs.lines.put_marked.Goals as goal
 
--- no such goal: slice-aggregate-put-labelled
--- slice_aggregate_put_labelled : tie.Need-slice-aggregate-put-labelled
--- slice_aggregate_put_labelled c = search rules
-
-place_short : (c : goal.After-put_pair-mark) → c.put_pair-mark.result ≤ 42
-place_short c =
-    let a = c.args in
-    omega (arith, c.put_pair-mark.ensures.answer, pair_length a.block a.refusal.place space (omega arith) (omega arith))
-
 pub slice_bounds-put_labelled-count : goal.slice_bounds-put_labelled-count
 slice_bounds-put_labelled-count c =
-    let p = c.before.before.before.before in
-    put_within _ _ p.put_pair-mark.ensures (omega (arith, place_short p))
+    let a = c.args in
+    let short = pair_length a.block a.refusal.place space (omega arith) (omega arith) in
+    put_within _ _ (c.put_pair-mark.ensures.answer, c.put_pair-mark.ensures.output) (omega (arith, c.put_pair-mark.ensures.answer, short))
 
 pub slice_bounds-put_labelled-start : goal.slice_bounds-put_labelled-start
 slice_bounds-put_labelled-start c = slice_bounds-put_labelled-count c
 
--- no such goal: slice-bounds-put-labelled-end
--- part_put_labelled_end : tie.Need-slice-bounds-put-labelled-end
--- part_put_labelled_end c = search rules
-
-lead_short : (c : goal.After-put_pair-mark) → length (ascii "- " ++ field c.args.refusal.lead space) ≤ 23
+lead_short : (lead : ℕ) → lead < 2 ^ 64 → length (ascii "- " ++ field lead space) ≤ 23
 unfolding ascii tab
-lead_short c = omega (arith, field_length c.args.refusal.lead space (omega arith))
+lead_short lead h = omega (arith, field_length lead space h)
 
 pub overflow_add-result : goal.overflow_add-result
 unfolding ascii tab
 overflow_add-result c =
-    let l = c.before.before in
-    let p = l.before.before.before.before.before.before in
-    omega (arith, place_short p, lead_short p, (put_rest _ _ p.put_pair-mark.ensures _ (omega (arith, place_short p, lead_short p)) l.put_labelled.ensures).0)
+    let a = c.args in
+    let short = pair_length a.block a.refusal.place space (omega arith) (omega arith) in
+    let place = c.put_pair-mark.ensures.answer in
+    let lead = lead_short a.refusal.lead (omega arith) in
+    omega (arith, place, short, lead, (put_rest _ _ (c.put_pair-mark.ensures.answer, c.put_pair-mark.ensures.output) _ (omega (arith, place, short, lead)) (c.put_labelled.ensures.answer, c.put_labelled.ensures.output)).0)
 
 pub returns : goal.returns
 unfolding marked_text place_text ascii tab
 returns c =
-    let l = c.before.before in
-    let p = l.before.before.before.before.before.before in record { answer = (put_after _ _ p.put_pair-mark.ensures _ (put_rest _ _ p.put_pair-mark.ensures _ (omega (arith, place_short p, lead_short p)) l.put_labelled.ensures)).0; output = (put_after _ _ p.put_pair-mark.ensures _ (put_rest _ _ p.put_pair-mark.ensures _ (omega (arith, place_short p, lead_short p)) l.put_labelled.ensures)).1 }
+    let a = c.args in
+    let short = pair_length a.block a.refusal.place space (omega arith) (omega arith) in
+    let place = c.put_pair-mark.ensures.answer in
+    let lead = lead_short a.refusal.lead (omega arith) in
+    let all = put_after _ _ (c.put_pair-mark.ensures.answer, c.put_pair-mark.ensures.output) _ (put_rest _ _ (c.put_pair-mark.ensures.answer, c.put_pair-mark.ensures.output) _ (omega (arith, place, short, lead)) (c.put_labelled.ensures.answer, c.put_labelled.ensures.output)) in record { answer = all.0; output = all.1 }

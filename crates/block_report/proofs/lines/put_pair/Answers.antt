@@ -1,36 +1,44 @@
 -- The second number is put into what the first leaves of the output.
-use Prim.Native.Nat.{◌≤◌}
+use mathlib.Core.List.{List}
+use Prim.Native.Nat.{ℕ, ◌<◌, ◌^◌, ◌≤◌}
 use native.Mathlib.Omega.{arith}
-use borrow.Author.Rules.{rules}
 use lib.ListN.{length}
 use Rattle.text.specs.Ascii.{space}
 use Rattle.text.specs.Decimal.{field}
+use Rattle.text.specs.Written.{written}
 use Rattle.text.proofs.Decimals.{field_length}
 use Rattle.text.proofs.Puts.{Put, put_whole, put_after, put_within, put_rest}
 use Rattle.block_report.proofs.lines.put_pair.Goals as goal
 
-first_short : (c : goal.After-put_field-at) → length (field c.args.first space) ≤ 21
-first_short c = field_length c.args.first space (omega arith)
-
-first : (c : goal.After-put_field-at) → let a = c.args in Put (field a.first space) a.out.now c.put_field-at.result c.put_field-at.new.out
-first c = put_whole _ _ (omega (arith, first_short c)) c.put_field-at.ensures
+first : (n : ℕ) (out : List ℕ) {r : ℕ} {x : List ℕ} → n < 2 ^ 64 → 42 ≤ length out → Put (written (field n space) (length out)) out r x → Put (field n space) out r x
+first n out small room put = put_whole _ _ (omega (arith, field_length n space small)) put
 
 pub slice_bounds-put_field-count : goal.slice_bounds-put_field-count
-slice_bounds-put_field-count c = let f = c.before.before in put_within _ _ (first f) (omega (arith, (first f).0, first_short f))
+slice_bounds-put_field-count c =
+    let a = c.args in
+    let e = c.put_field-at.ensures in
+    let put = first a.first a.out.now (omega arith) (omega arith) (e.answer, e.output) in
+    put_within _ _ put (omega (arith, put.0, field_length a.first space (omega arith)))
 
 pub slice_bounds-put_field-start : goal.slice_bounds-put_field-start
 slice_bounds-put_field-start c = slice_bounds-put_field-count c
 
-second_short : (c : goal.After-put_field-at) → let a = c.args in length (field a.second a.end) ≤ 21
-second_short c = let a = c.args in field_length a.second a.end (omega arith)
-
 pub overflow_add-result : goal.overflow_add-result
 overflow_add-result c =
-    let g = c.before.before in
-    let f = g.before.before.before.before in
-    omega (arith, (first f).0, first_short f, second_short f, (put_rest _ _ (first f) _ (omega (arith, (first f).0, first_short f, second_short f)) g.put_field.ensures).0)
+    let a = c.args in
+    let e = c.put_field-at.ensures in
+    let f = c.put_field.ensures in
+    let put = first a.first a.out.now (omega arith) (omega arith) (e.answer, e.output) in
+    let short = field_length a.first space (omega arith) in
+    let short_2 = field_length a.second a.end (omega arith) in
+    omega (arith, put.0, short, short_2, (put_rest _ _ put _ (omega (arith, put.0, short, short_2)) (f.answer, f.output)).0)
 
 pub returns : goal.returns
 returns c =
-    let g = c.before.before in
-    let f = g.before.before.before.before in record { answer = (put_after _ _ (first f) _ (put_rest _ _ (first f) _ (omega (arith, (first f).0, first_short f, second_short f)) g.put_field.ensures)).0; output = (put_after _ _ (first f) _ (put_rest _ _ (first f) _ (omega (arith, (first f).0, first_short f, second_short f)) g.put_field.ensures)).1 }
+    let a = c.args in
+    let e = c.put_field-at.ensures in
+    let f = c.put_field.ensures in
+    let put = first a.first a.out.now (omega arith) (omega arith) (e.answer, e.output) in
+    let short = field_length a.first space (omega arith) in
+    let short_2 = field_length a.second a.end (omega arith) in
+    let all = put_after _ _ put _ (put_rest _ _ put _ (omega (arith, put.0, short, short_2)) (f.answer, f.output)) in record { answer = all.0; output = all.1 }

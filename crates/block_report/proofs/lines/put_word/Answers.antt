@@ -1,44 +1,50 @@
 -- The correlation is put into what the word leaves of the output.
-use Prim.Native.Nat.{◌≤◌}
+use mathlib.Core.List.{List}
+use Prim.Native.Nat.{ℕ, ◌<◌, ◌^◌, ◌≤◌}
 use native.Mathlib.Omega.{arith}
-use borrow.Author.Rules.{rules}
 use lib.ListN.{length}
 use lib.Signed.{nat_abs-le}
 use mir.Facts.{to_z-of_z}
 use Rattle.text.specs.Ascii.{space}
-use Rattle.text.specs.Decimal.{field, signed_field}
+use Rattle.text.specs.Decimal.{field}
+use Rattle.text.specs.Written.{written}
 use Rattle.text.proofs.Decimals.{field_length_32, signed_field_length}
 use Rattle.text.proofs.Puts.{Put, put_whole, put_after, put_within, put_rest}
 use Rattle.block_report.specs.Lines.{word_text}
 use Rattle.block_report.proofs.lines.put_word.Goals as goal
 
-first_short : (c : goal.After-put_field-at) → length (field c.args.word space) ≤ 11
-first_short c = field_length_32 c.args.word space (omega arith)
-
-first : (c : goal.After-put_field-at) → let a = c.args in Put (field a.word space) a.out.now c.put_field-at.result c.put_field-at.new.out
-first c = put_whole _ _ (omega (arith, first_short c)) c.put_field-at.ensures
+first : (n : ℕ) (out : List ℕ) {r : ℕ} {x : List ℕ} → n < 2 ^ 32 → 23 ≤ length out → Put (written (field n space) (length out)) out r x → Put (field n space) out r x
+first n out small room put = put_whole _ _ (omega (arith, field_length_32 n space small)) put
 
 pub slice_bounds-put_signed_field-count : goal.slice_bounds-put_signed_field-count
-slice_bounds-put_signed_field-count c = let f = c.before.before in put_within _ _ (first f) (omega (arith, (first f).0, first_short f))
+slice_bounds-put_signed_field-count c =
+    let a = c.args in
+    let e = c.put_field-at.ensures in
+    let put = first a.word a.out.now (omega arith) (omega arith) (e.answer, e.output) in
+    put_within _ _ put (omega (arith, put.0, field_length_32 a.word space (omega arith)))
 
 pub slice_bounds-put_signed_field-start : goal.slice_bounds-put_signed_field-start
 slice_bounds-put_signed_field-start c = slice_bounds-put_signed_field-count c
 
-second_short : (c : goal.After-put_field-at) → let a = c.args in length (signed_field a.correlation a.end) ≤ 12
-second_short c =
-    let s = c.before.before.before in
-    signed_field_length s.args.correlation s.args.end (omega (arith, nat_abs-le s.args.correlation s.ranges.correlation.sfits))
-
 pub overflow_add-result : goal.overflow_add-result
 overflow_add-result c =
-    let g = c.before.before in
-    let f = g.before.before.before.before in
-    let told = rw (to_z-of_z f.ranges.correlation) at g.put_signed_field.ensures in
-    omega (arith, (first f).0, first_short f, second_short f, (put_rest _ _ (first f) _ (omega (arith, (first f).0, first_short f, second_short f)) told).0)
+    let a = c.args in
+    let e = c.put_field-at.ensures in
+    let put = first a.word a.out.now (omega arith) (omega arith) (e.answer, e.output) in
+    let short = field_length_32 a.word space (omega arith) in
+    let short_2 = signed_field_length a.correlation a.end (omega (arith, nat_abs-le a.correlation c.ranges.correlation.sfits)) in
+    let told = rw (to_z-of_z c.ranges.correlation) at c.put_signed_field.ensures.answer in
+    let told_2 = rw (to_z-of_z c.ranges.correlation) at c.put_signed_field.ensures.output in
+    omega (arith, put.0, short, short_2, (put_rest _ _ put _ (omega (arith, put.0, short, short_2)) (told, told_2)).0)
 
 pub returns : goal.returns
 unfolding word_text
 returns c =
-    let g = c.before.before in
-    let f = g.before.before.before.before in
-    let told = rw (to_z-of_z f.ranges.correlation) at g.put_signed_field.ensures in record { answer = (put_after _ _ (first f) _ (put_rest _ _ (first f) _ (omega (arith, (first f).0, first_short f, second_short f)) told)).0; output = (put_after _ _ (first f) _ (put_rest _ _ (first f) _ (omega (arith, (first f).0, first_short f, second_short f)) told)).1 }
+    let a = c.args in
+    let e = c.put_field-at.ensures in
+    let put = first a.word a.out.now (omega arith) (omega arith) (e.answer, e.output) in
+    let short = field_length_32 a.word space (omega arith) in
+    let short_2 = signed_field_length a.correlation a.end (omega (arith, nat_abs-le a.correlation c.ranges.correlation.sfits)) in
+    let told = rw (to_z-of_z c.ranges.correlation) at c.put_signed_field.ensures.answer in
+    let told_2 = rw (to_z-of_z c.ranges.correlation) at c.put_signed_field.ensures.output in
+    let all = put_after _ _ put _ (put_rest _ _ put _ (omega (arith, put.0, short, short_2)) (told, told_2)) in record { answer = all.0; output = all.1 }

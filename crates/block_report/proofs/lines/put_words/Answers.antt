@@ -1,63 +1,60 @@
 -- The next word is put into what the word leaves of the output.
 use mathlib.Core.Path.{◌≡◌}
-use Prim.Native.Nat.{◌≤◌}
 use native.Mathlib.Omega.{arith}
-use borrow.Author.Rules.{rules}
 use lib.ListN.{length}
-use mir.Syntax.{w32}
-use mir.Val.{SFits}
 use mir.Facts.{to_z-of_z}
+use Rattle.lists.specs.Lists.{over}
 use Rattle.text.specs.Ascii.{line_feed, space}
 use Rattle.block_report.specs.Lines.{word_text, words_text}
-use Rattle.block_report.proofs.TextBounds.{word_length, Small}
+use Rattle.block_report.proofs.TextBounds.{word_length}
 use Rattle.block_report.proofs.Elements.{held_small, correlations_fit}
-use Rattle.text.proofs.Puts.{Put, put_after, put_within, put_room}
+use Rattle.text.proofs.Puts.{put_after, put_within, put_room}
 use Rattle.block_report.proofs.lines.put_words.Goals as goal
-
-small : (s : goal.Start) → Small s.args.character
-small s = held_small s.args.character _ s.well_formed.0
-
-fit : (s : goal.Start) → SFits w32 s.args.character.correlation × SFits w32 s.args.character.next_correlation
-fit s = correlations_fit s.args.character _ s.well_formed.0
-
-first : (c : goal.After-put_word-next) → let s = c.before.before.before.before in
-    Put (word_text s.args.character.word s.args.character.correlation space) s.args.out.now c.put_word-next.result c.put_word-next.new.out
-first c = rw (to_z-of_z (fit c.before.before.before.before).0) at c.put_word-next.ensures
-
-first_short : (c : goal.After-put_word-next) → c.put_word-next.result ≤ 23
-first_short c =
-    let s = c.before.before.before.before in
-    omega (arith, (first c).0, word_length s.args.character.word s.args.character.correlation space (small s).word (small s).correlation)
-
-second_short : (c : goal.After-put_word-next) → let d = c.args.character in length (word_text d.next d.next_correlation line_feed) ≤ 23
-second_short c =
-    let s = c.before.before.before.before in
-    word_length s.args.character.next s.args.character.next_correlation line_feed (small s).next (small s).next_correlation
 
 pub slice_bounds-put_word-count : goal.slice_bounds-put_word-count
 slice_bounds-put_word-count c =
-    let f = c.before.before in
-    put_within _ _ (first f) (omega (arith, first_short f))
+    let d = c.args.character in
+    let small = held_small d _ c.well_formed.0 in
+    let fit = correlations_fit d _ c.well_formed.0 in
+    let put : c.put_word-next.result ≡ length (word_text d.word d.correlation space) = rw (to_z-of_z fit.0) at c.put_word-next.ensures.answer in
+    let put_2 : c.put_word-next.new.out ≡ over (word_text d.word d.correlation space) c.args.out.now = rw (to_z-of_z fit.0) at c.put_word-next.ensures.output in
+    let short = word_length d.word d.correlation space small.word small.correlation in
+    put_within _ _ (put, put_2) (omega (arith, put, short))
 
 pub slice_bounds-put_word-start : goal.slice_bounds-put_word-start
 slice_bounds-put_word-start c = slice_bounds-put_word-count c
 
 pub put_word-requires : goal.put_word-requires
 put_word-requires c =
-    let f = c.before.before.before.before in
-    put_room _ _ (first f) 23 (omega (arith, first_short f))
+    let d = c.args.character in
+    let small = held_small d _ c.well_formed.0 in
+    let fit = correlations_fit d _ c.well_formed.0 in
+    let put : c.put_word-next.result ≡ length (word_text d.word d.correlation space) = rw (to_z-of_z fit.0) at c.put_word-next.ensures.answer in
+    let put_2 : c.put_word-next.new.out ≡ over (word_text d.word d.correlation space) c.args.out.now = rw (to_z-of_z fit.0) at c.put_word-next.ensures.output in
+    let short = word_length d.word d.correlation space small.word small.correlation in
+    put_room _ _ (put, put_2) 23 (omega (arith, put, short))
 
 pub overflow_add-result : goal.overflow_add-result
 overflow_add-result c =
-    let g = c.before.before in
-    let f = g.before.before.before.before.before in
-    let s = f.before.before.before.before in
-    let told : g.put_word.result ≡ length (word_text s.args.character.next s.args.character.next_correlation line_feed) =
-    rw (to_z-of_z (fit s).1) at g.put_word.ensures.answer in
-    omega (arith, first_short f, second_short f)
+    let d = c.args.character in
+    let small = held_small d _ c.well_formed.0 in
+    let fit = correlations_fit d _ c.well_formed.0 in
+    let put : c.put_word-next.result ≡ length (word_text d.word d.correlation space) = rw (to_z-of_z fit.0) at c.put_word-next.ensures.answer in
+    let put_2 : c.put_word-next.new.out ≡ over (word_text d.word d.correlation space) c.args.out.now = rw (to_z-of_z fit.0) at c.put_word-next.ensures.output in
+    let short = word_length d.word d.correlation space small.word small.correlation in
+    let short_2 = word_length d.next d.next_correlation line_feed small.next small.next_correlation in
+    let told : c.put_word.result ≡ length (word_text d.next d.next_correlation line_feed) = rw (to_z-of_z fit.1) at c.put_word.ensures.answer in
+    omega (arith, put, short, told, short_2)
 
 pub returns : goal.returns
 unfolding words_text
 returns c =
-    let g = c.before.before in
-    let f = g.before.before.before.before.before in record { answer = (put_after _ _ (first f) _ (rw (to_z-of_z (fit f.before.before.before.before).1) at g.put_word.ensures)).0; output = (put_after _ _ (first f) _ (rw (to_z-of_z (fit f.before.before.before.before).1) at g.put_word.ensures)).1 }
+    let d = c.args.character in
+    let small = held_small d _ c.well_formed.0 in
+    let fit = correlations_fit d _ c.well_formed.0 in
+    let put : c.put_word-next.result ≡ length (word_text d.word d.correlation space) = rw (to_z-of_z fit.0) at c.put_word-next.ensures.answer in
+    let put_2 : c.put_word-next.new.out ≡ over (word_text d.word d.correlation space) c.args.out.now = rw (to_z-of_z fit.0) at c.put_word-next.ensures.output in
+    let short = word_length d.word d.correlation space small.word small.correlation in
+    let told = rw (to_z-of_z fit.1) at c.put_word.ensures.answer in
+    let told_2 = rw (to_z-of_z fit.1) at c.put_word.ensures.output in
+    let all = put_after _ _ (put, put_2) _ (told, told_2) in record { answer = all.0; output = all.1 }
