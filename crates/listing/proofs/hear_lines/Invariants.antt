@@ -1,14 +1,7 @@
-use borrow.Author.Rules.{rules}
-use mathlib.Core.Path.{◌≡◌, refl}
-use mathlib.Core.List.{List}
-use Prim.Native.Nat.{ℕ, ◌+◌, ◌-◌, ◌≤◌}
-use native.Mathlib.Omega.{arith}
-use lib.ListN.{length, take, drop, length-take, length-drop}
-use Rattle.lists.specs.Lists.{over}
-use Rattle.stages.specs.Stages.{told}
-use Rattle.stages.proofs.Tellings.{tells_whole}
-use Rattle.judge.specs.Judged.{closed}
-use Rattle.listing.proofs.Pieces.{Hears, said_within, place_after, hears_begun, hears_line, tells_all, tells_within}
+use mathlib.Core.Path.{◌≡◌}
+use Prim.Native.Nat.{◌-◌, ◌≤◌}
+use lib.ListN.{length}
+use Rattle.listing.proofs.Pieces.{Hears}
 use Rattle.listing.proofs.hear_lines.Given as goal
 
 abbrev pub invariant-loop-from : goal.invariant-loop-from

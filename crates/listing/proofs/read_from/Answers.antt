@@ -1,4 +1,3 @@
-use borrow.Author.Rules.{rules}
 use Rattle.listing.specs.Internal.{tones_read}
 use Rattle.listing.proofs.Lines.{read_as}
 use Rattle.listing.proofs.read_from.Goals as goal
