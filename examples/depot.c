@@ -1,4 +1,4 @@
-/* A stock line on the air: encoded, damaged and decoded. Build it with libolivia.a (rt staticlib olivia). */
+/* A stock line on the air: encoded, damaged and decoded. Build it with libolivia.a (bin/library). */
 #include <olivia.h>
 #include <stdio.h>
 #include <string.h>

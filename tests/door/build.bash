@@ -1,7 +1,7 @@
 # bin/build, in a tree of its own: an rt that proves nothing makes a program that prints its input.
 # shellcheck shell=bash disable=SC2016,SC2086,SC2154
 tree=$room/tree
-mkdir -p "$tree/crates/list/src" "$room/path"
+mkdir -p "$tree/crates/list/src" "$tree/crates/olivia/src" "$room/path"
 cp -r bin "$tree/bin"
 touch "$tree/crates.txt" "$tree/crates/list/src/main.rt" "$tree/crates/list/src/other.rt"
 list=$tree/bin/list
@@ -14,8 +14,8 @@ set -eu
 echo "$*" >>"$room/calls"
 cat >/dev/null
 case $1 in
-    check) made=target/bin/list ;;
-    staticlib) made=target/staticlib/libolivia.a ;;
+    run) made=out/list ;;
+    lib) made=out/libolivia.a ;;
 esac
 mkdir -p "$(dirname "$made")"
 echo '#!/bin/sh' >"$made"
@@ -52,7 +52,7 @@ call "$list" <<<fed
 check 'first use' "$status $out $err $(calls)" "0 fed"$'\n'"END 0 $begins 1"
 call "$list" <<<fed
 check 'second use' "$status $out $err $(calls)" "0 fed"$'\nEND 0  0'
-echo '#!/bin/sh' >"$tree/target/bin/list"
+echo '#!/bin/sh' >"$tree/crates/list/out/list"
 call "$list" <<<fed
 check 'half a program where rt writes it' "$status $out $err $(calls)" "0 fed"$'\nEND 0  0'
 
@@ -82,7 +82,7 @@ call "$list" <<<fed
 check 'after an edit during the proof' "$status $out $(calls)" "0 fed"$'\nEND 0 1'
 
 # A proof that fails, with a program of before at hand and without.
-fails="$begins"$'\n'"$(seq 11 30)"$'\n'"bin/build: rt check list failed; the whole report is $tree/target/list.log"
+fails="$begins"$'\n'"$(seq 11 30)"$'\n'"bin/build: rt run failed; the whole report is $tree/target/list.log"
 for change in 'touch crates.txt' 'rm -r target'; do
     edit $change
     during 'seq 30; exit 1'
@@ -101,7 +101,7 @@ for change in 'touch crates.txt' 'rm -r target'; do
     call "$list" <<<fed
     check "a proof that is mended, after $change" "$status $out $err $(calls)" "0 fed"$'\n'"END 0 $begins 1"
     check "nothing else is left, after $change" "$(ls "$tree/target" "$tree/target/front")" \
-        "$tree/target:"$'\nbin\nfront\nlist.log\nlist.stamp\n\n'"$tree/target/front:"$'\nlist'
+        "$tree/target:"$'\nfront\nlist.log\nlist.stamp\n\n'"$tree/target/front:"$'\nlist'
 done
 
 # Two calls at once: the first proof waits until the second call has said that it waits.
@@ -133,7 +133,7 @@ rm "$room/path/flock"
 library=$tree/bin/library
 begins=$(begins staticlib/libolivia.a olivia.log)
 call "$library"
-check 'the library: first use' "$status $out $err $(<"$room/calls") $(calls)" "0  $begins staticlib olivia 1"
+check 'the library: first use' "$status $out $err $(<"$room/calls") $(calls)" "0  $begins lib 1"
 call "$library"
 check 'the library: second use' "$status $out $err $(calls)" '0   0'
 edit touch crates/list/src/main.rt

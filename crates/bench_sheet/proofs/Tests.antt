@@ -32,7 +32,7 @@ use Rattle.band.specs.Frequencies.{frequency_of}
 use Rattle.band.specs.declared.Tuned.{Tuned}
 use Rattle.band.specs.declared.Tuned.TheVariants as tuned
 use Rattle.bench_sheet.specs.Heard.{case_1, Accepts}
-use Rattle.bench_sheet.specs.Sheet.{Row, b=◌codes◌first_tones◌, tone◌is_symbol◌, ◌r=◌u=◌, ◌m=◌accepts_code◌lead◌, ◌m=◌refuses_10_place◌lead◌, ◌at_every_m_refuses_10_place◌lead◌, ◌has_lead◌, ◌just_beyond_demand_3_at_m=◌, b=_B_centre_tone_at_thousandths, Holds, Each}
+use Rattle.bench_sheet.specs.Sheet.{Row, b=◌codes◌first_tones◌, tone◌is_symbol◌, ◌r=◌u=◌, ◌m=◌accepts_code◌lead◌, ◌m=◌refuses_10_place◌lead◌, ◌at_every_m_refuses_10_place◌lead◌, ◌has_lead◌, ◌just_beyond_demand_3_at_m=◌, b=◌B◌centre◌tone◌at◌thousandths, Holds, Each}
 use Rattle.bench_sheet.proofs.Quick.{quick_of, characters_quick}
 
 -- ---- lists of numbers
@@ -152,32 +152,32 @@ at_every_m heard q l first answer its_lead m low high =
 -- ---- rows
 
 abbrev passes : Row → Bool
-passes (b= b codes vs first-tones ts) = same (take (length ts) (encoded_into b vs (replicate 64 0))) ts
-passes (tone g is-symbol s) = eqb (symbol_of g) s
+passes (b= b codes vs first_tones ts) = same (take (length ts) (encoded_into b vs (replicate 64 0))) ts
+passes (tone g is_symbol s) = eqb (symbol_of g) s
 passes (heard r= r u= u) = eqb (replaced_in case_1 heard) r && eqb (missing_in heard) u
-passes (heard m= m accepts-code v lead l) = is_whole m heard && is_accepted (quick m heard) v l
-passes (heard m= m refuses-10-place q lead l) = is_whole m heard && is_unclear (quick m heard).answer q l
-passes (heard at-every-m-refuses-10-place q lead l) = is_whole 1 heard && (eqb q 0 && (is_unclear (quick 1 heard).answer q l && eqb (lead_in (quick 1 heard).characters q) l))
-passes (heard has-lead l) = eqb (lead_in (quick_of 1 heard plain) 0) l
-passes (heard just-beyond-demand-3-at-m= m) = eqb (2 * missing_in heard + 4 * replaced_in case_1 heard) (64 + m)
+passes (heard m= m accepts_code v lead l) = is_whole m heard && is_accepted (quick m heard) v l
+passes (heard m= m refuses_10_place q lead l) = is_whole m heard && is_unclear (quick m heard).answer q l
+passes (heard at_every_m_refuses_10_place q lead l) = is_whole 1 heard && (eqb q 0 && (is_unclear (quick 1 heard).answer q l && eqb (lead_in (quick 1 heard).characters q) l))
+passes (heard has_lead l) = eqb (lead_in (quick_of 1 heard plain) 0) l
+passes (heard just_beyond_demand_3_at_m= m) = eqb (2 * missing_in heard + 4 * replaced_in case_1 heard) (64 + m)
 passes (b= b B w centre c tone n at k thousandths) = is_hertz (frequency_of b w c n) k 1000
 
 holds : (row : Row) → T (passes row) → Holds row
-holds (b= b codes vs first-tones ts) t = same_lists (take (length ts) (encoded_into b vs (replicate 64 0))) ts t
-holds (tone g is-symbol s) t = eqb→eq (symbol_of g) s t
+holds (b= b codes vs first_tones ts) t = same_lists (take (length ts) (encoded_into b vs (replicate 64 0))) ts t
+holds (tone g is_symbol s) t = eqb→eq (symbol_of g) s t
 holds (heard r= r u= u) t =
     let replaced = eqb (replaced_in case_1 heard) r in
     let missing = eqb (missing_in heard) u in
     (eqb→eq (replaced_in case_1 heard) r (and_l replaced missing t), eqb→eq (missing_in heard) u (and_r replaced missing t))
-holds (heard m= m accepts-code v lead l) t =
+holds (heard m= m accepts_code v lead l) t =
     let whole = is_whole m heard in
     let its = is_accepted (quick m heard) v l in
     subst (λ (d : BlockDecoded). Accepts d v l) (sym (decoded_quick m heard (and_l whole its t))) (accepted (quick m heard) v l (and_r whole its t))
-holds (heard m= m refuses-10-place q lead l) t =
+holds (heard m= m refuses_10_place q lead l) t =
     let whole = is_whole m heard in
     let its = is_unclear (quick m heard).answer q l in
     ap (λ (d : BlockDecoded). d.answer) (decoded_quick m heard (and_l whole its t)) ∙ unclear (quick m heard).answer q l (and_r whole its t)
-holds (heard at-every-m-refuses-10-place q lead l) t =
+holds (heard at_every_m_refuses_10_place q lead l) t =
     let whole = is_whole 1 heard in
     let first = eqb q 0 in
     let second = is_unclear (quick 1 heard).answer q l in
@@ -188,9 +188,9 @@ holds (heard at-every-m-refuses-10-place q lead l) t =
     at_every_m heard q l (eqb→eq q 0 (and_l first (second && third) rest))
     (ap (λ (d : BlockDecoded). d.answer) same ∙ unclear (quick 1 heard).answer q l (and_l second third its))
     (ap (λ (d : BlockDecoded). lead_in d.characters q) same ∙ eqb→eq (lead_in (quick 1 heard).characters q) l (and_r second third its))
-holds (heard has-lead l) t =
+holds (heard has_lead l) t =
     ap (λ (x : List Character). lead_in x 0) (characters_quick 1 heard plain) ∙ eqb→eq (lead_in (quick_of 1 heard plain) 0) l t
-holds (heard just-beyond-demand-3-at-m= m) t = eqb→eq (2 * missing_in heard + 4 * replaced_in case_1 heard) (64 + m) t
+holds (heard just_beyond_demand_3_at_m= m) t = eqb→eq (2 * missing_in heard + 4 * replaced_in case_1 heard) (64 + m) t
 holds (b= b B w centre c tone n at k thousandths) t = hertz (frequency_of b w c n) k 1000 t
 
 abbrev all_pass : List Row → Bool

@@ -12,7 +12,7 @@ use demands::Trial;
 use weighted_demands::WeightedTrial;
 
 mod counts;
-mod damage;
+mod weighing;
 
 // The first receiver hears the tones that were written, the second what is handed in as heard.
 pub fn run(
@@ -56,7 +56,7 @@ pub fn run_weighted(
 {
     let encoded = block_encoder::encode_block(mode, text, tones);
     let sent = sent_count(encoded);
-    let damage = damage::damage_in(&tones[..sent], heard, weights);
+    let damage = weighing::damage_in(&tones[..sent], heard, weights);
     let full = [GREATEST_WEIGHT; 64];
     let first = block_decoder::decode_weighted(mode, least_lead, &tones[..sent], &full, one);
     let second = block_decoder::decode_weighted(mode, least_lead, heard, weights, two);

@@ -1,10 +1,7 @@
-use mathlib.Core.Path.{◌≡◌, sym, ◌∙◌}
-use Prim.Native.Nat.{◌-◌, ◌≤◌}
+use mathlib.Core.Path.{sym, ◌∙◌}
 use borrow.Author.Rules.{rules}
 use borrow.Author.Tests.{eq-eqb, ne_eqb}
-use Rattle.lists.specs.Places.{scan, first}
 use Rattle.lists.proofs.Places.{scan_start, scan_hit, scan_miss, scan_end}
-use Rattle.delivery.specs.Delivery.{is_zero}
 use Rattle.delivery.proofs.first_zero.Goals as goal
 
 pub loop-i-init : goal.loop-i-init

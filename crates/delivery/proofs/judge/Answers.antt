@@ -2,7 +2,6 @@ use mathlib.Core.Path.{sym, ◌∙◌, ap}
 use Prim.Native.Nat.{◌≤◌}
 use native.Mathlib.Omega.{arith}
 use lib.ListN.{length}
-use borrow.Author.Rules.{rules}
 use Rattle.lists.specs.Places.{first}
 use Rattle.refusal.specs.Refused.{refused_at}
 use Rattle.block_decoder.specs.declared.Decoded.TheVariants.{Refused}
@@ -13,10 +12,10 @@ use Rattle.delivery.proofs.judge.Goals as goal
 use Rattle.delivery.proofs.judge.Goals.{After-text_end-n, Else-zero-n}
 
 -- the end lies within the codes
-within_codes : (c : After-text_end-n) → c.text_end_lem.result ≤ length c.args.codes.now
+within_codes : (c : After-text_end-n) → c.text_end-n.result ≤ length c.args.codes.now
 within_codes c =
     let codes = c.args.codes.now in
-    omega (arith, c.text_end_lem.ensures, end_within codes)
+    omega (arith, c.text_end-n.ensures, end_within codes)
 
 pub first_zero-zero-requires : goal.first_zero-zero-requires
 first_zero-zero-requires c = within_codes (goal.at.first_zero-zero-requires c).After-text_end-n
@@ -24,10 +23,10 @@ first_zero-zero-requires c = within_codes (goal.at.first_zero-zero-requires c).A
 pub returns-then-zero-n : goal.returns-then-zero-n
 returns-then-zero-n c =
     ap Refused (c.at.ensures ∙ ap (refused_at 11) c.first_zero-zero.ensures)
-    ∙ sym (refuses_zero _ _ _ _ c.text_end_lem.ensures (rw c.first_zero-zero.ensures at c.if-zero-n.true))
+    ∙ sym (refuses_zero _ _ _ _ c.text_end-n.ensures (rw c.first_zero-zero.ensures at c.if-zero-n.true))
 
 -- no 0 stands before the end, once that is checked
-no_zero_known : (c : Else-zero-n) → c.text_end_lem.result ≤ first (is_zero c.args.codes.now) c.text_end_lem.result
+no_zero_known : (c : Else-zero-n) → c.text_end-n.result ≤ first (is_zero c.args.codes.now) c.text_end-n.result
 no_zero_known c = rw c.first_zero-zero.ensures at c.if-zero-n.false
 
 pub overflow_sub-codes : goal.overflow_sub-codes
@@ -37,16 +36,16 @@ pub returns-then-mode-codes : goal.returns-then-mode-codes
 returns-then-mode-codes c =
     let a = c.args in
     ap Refused c.at-then-mode-codes.ensures
-    ∙ sym (refuses_filling a.limit a.mode a.codes.now c.text_end_lem.result c.text_end_lem.ensures (no_zero_known (goal.at.returns-then-mode-codes c).Else-zero-n) (omega (arith, c.if-mode-codes.true)))
+    ∙ sym (refuses_filling a.limit a.mode a.codes.now c.text_end-n.result c.text_end-n.ensures (no_zero_known (goal.at.returns-then-mode-codes c).Else-zero-n) (omega (arith, c.if-mode-codes.true)))
 
 pub returns-then-limit-n : goal.returns-then-limit-n
 returns-then-limit-n c =
-    ap Refused c.at-then-limit-n.ensures ∙ sym (refuses_long _ _ _ _ c.text_end_lem.ensures (no_zero_known (goal.at.returns-then-limit-n c).Else-zero-n) c.if-mode-codes.false c.if-limit-n.true)
+    ap Refused c.at-then-limit-n.ensures ∙ sym (refuses_long _ _ _ _ c.text_end-n.ensures (no_zero_known (goal.at.returns-then-limit-n c).Else-zero-n) c.if-mode-codes.false c.if-limit-n.true)
 
 pub returns : goal.returns
 returns c =
     sym (delivers _ _ _ _ record {
-      end = c.text_end_lem.ensures;
+      end = c.text_end-n.ensures;
       no_zero = no_zero_known (goal.at.returns c).Else-zero-n;
       filling = c.if-mode-codes.false;
       fits = c.if-limit-n.false;

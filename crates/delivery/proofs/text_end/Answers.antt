@@ -1,8 +1,6 @@
-use mathlib.Core.Path.{◌≡◌, refl, sym, ◌∙◌}
-use Prim.Native.Nat.{◌≤◌}
-use lib.ListN.{length}
+use mathlib.Core.Path.{refl, sym, ◌∙◌}
 use borrow.Author.Rules.{rules}
-use Rattle.delivery.specs.Delivery.{end_below, text_end}
+use Rattle.delivery.specs.Delivery.{text_end}
 use Rattle.delivery.proofs.TextEnds.{end_none, end_here, end_before}
 use Rattle.delivery.proofs.text_end.Goals as goal
 

@@ -1,9 +1,7 @@
-use mathlib.Core.Path.{◌≡◌, refl, sym, ◌∙◌}
+use mathlib.Core.Path.{◌≡◌}
 use Prim.Native.Nat.{◌≤◌}
 use lib.ListN.{length}
-use borrow.Author.Rules.{rules}
 use Rattle.delivery.specs.Delivery.{end_below, text_end}
-use Rattle.delivery.proofs.TextEnds.{end_none, end_here, end_before}
 use Rattle.delivery.proofs.text_end.Given as goal
 
 abbrev pub invariant-loop-n : goal.invariant-loop-n

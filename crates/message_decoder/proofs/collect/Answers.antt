@@ -35,14 +35,6 @@ room c =
 pub overflow_add-at : goal.overflow_add-at
 overflow_add-at c = omega (arith, room (goal.at.overflow_add-at c).In-loop-k)
 
--- no such goal: slice-bounds-decode-start-2
--- part_decode_start_2 : tie.Need-slice-bounds-decode-start-2 invariant_loop decreases_loop
--- part_decode_start_2 c = search rules
-
--- no such goal: slice-bounds-decode-end-2
--- part_decode_end_2 : tie.Need-slice-bounds-decode-end-2 invariant_loop decreases_loop
--- part_decode_end_2 c = omega (arith, room c.before)
-
 -- what the call was handed: the settings, the tones of block k and a part of the mode's codes
 set : (s : Start) → IsSet s.args.mode s.args.least_lead
 set s = record { mode = s.requires.settings.0; lead = s.requires.settings.1 }
@@ -51,54 +43,45 @@ heard : (i : In-loop-k) → HasTones (2 ^ i.args.mode) (block_at i.args.tones.no
 heard i =
     block_has_tones i.args.tones.now i.args.count i.loop-k.k i.requires.whole i.loop-k-test.true i.args.mode i.requires.range
 
-part : In-loop-k → List ℕ
-part i =
-    let l = i.before in
-    take (l.loop.at + l.before.before.before.args.mode - l.loop.at) (drop l.loop.at l.loop.codes)
+abbrev part : ℕ → ℕ → List ℕ → List ℕ
+part at b codes = take (at + b - at) (drop at codes)
 
-size : (i : In-loop-k) → length (part i) ≡ i.args.mode
-unfolding part
-size i =
-    let room : i.loop-k.at + i.args.mode ≤ length i.loop-k.codes = omega (arith, place_room i.loop-k.k i.args.count i.args.mode i.loop-k-test.true, i.requires) in
-    part_length i.loop-k.codes i.loop-k.at i.args.mode (room)
+size : (i : In-loop-k) → length (part i.loop-k.at i.args.mode i.loop-k.codes) ≡ i.args.mode
+size i = part_length i.loop-k.codes i.loop-k.at i.args.mode (room i)
 
 -- the call's answer is the decision on block k
-decision : (c : After-decode-answer) → c.decode-answer.result ≡ (decode_block c.args.mode c.args.least_lead (block_at c.args.tones.now c.loop-k.k) (length (part c))).answer
-unfolding part
+decision : (c : After-decode-answer) → c.decode-answer.result ≡ (decode_block c.args.mode c.args.least_lead (block_at c.args.tones.now c.loop-k.k) (length (part c.loop-k.at c.args.mode c.loop-k.codes))).answer
 decision c =
     let heard : HasTones (2 ^ c.args.mode) (block_at c.args.tones.now c.loop-k.k) = block_has_tones c.args.tones.now c.args.count c.loop-k.k c.requires.whole c.loop-k-test.true c.args.mode c.requires.range in
     c.decode-answer.ensures.answer
-    ∙ ap (λ (x : List ℕ). decode_checked c.args.mode c.args.least_lead x (length (part c))) (part_block c.args.tones.now c.loop-k.k)
-    ∙ in_range.answer c.args.mode c.args.least_lead (block_at c.args.tones.now c.loop-k.k) (length (part c)) (heard)
+    ∙ ap (λ (x : List ℕ). decode_checked c.args.mode c.args.least_lead x (length (part c.loop-k.at c.args.mode c.loop-k.codes))) (part_block c.args.tones.now c.loop-k.k)
+    ∙ in_range.answer c.args.mode c.args.least_lead (block_at c.args.tones.now c.loop-k.k) (length (part c.loop-k.at c.args.mode c.loop-k.codes)) (heard)
 
 pub overflow_add-at-in-Refused : goal.overflow_add-at-in-Refused
 overflow_add-at-in-Refused c =
-    let a = c.answer-1.given in
-    omega (arith, room (goal.at.overflow_add-at-in-Refused c).In-loop-k, refused_inside c.args.mode c.args.least_lead c.args.tones.now c.loop-k.k (part c) (set (goal.at.overflow_add-at-in-Refused c).Start) (heard (goal.at.overflow_add-at-in-Refused c).In-loop-k) (size (goal.at.overflow_add-at-in-Refused c).In-loop-k) c.loop-k.invariant.4 a.0.0 (sym (decision (goal.at.overflow_add-at-in-Refused c).After-decode-answer) ∙ a.1))
+    omega (arith, room (goal.at.overflow_add-at-in-Refused c).In-loop-k, refused_inside c.args.mode c.args.least_lead c.args.tones.now c.loop-k.k (part c.loop-k.at c.args.mode c.loop-k.codes) (set (goal.at.overflow_add-at-in-Refused c).Start) (heard (goal.at.overflow_add-at-in-Refused c).In-loop-k) (size (goal.at.overflow_add-at-in-Refused c).In-loop-k) c.loop-k.invariant.4 c.in-Refused.unclear (sym (decision (goal.at.overflow_add-at-in-Refused c).After-decode-answer) ∙ c.in-Refused.is))
 
 pub returns-in-Refused : goal.returns-in-Refused
 returns-in-Refused c =
-    let a = c.answer-1.given in
-    let told = block_refused c.args.mode c.args.least_lead c.args.tones.now c.loop-k.k (part c) (set (goal.at.returns-in-Refused c).Start) (heard (goal.at.returns-in-Refused c).In-loop-k) (size (goal.at.returns-in-Refused c).In-loop-k) c.loop-k.invariant.4 c.args.count (Text (c.args.count * c.args.mode)) c.loop-k-test.true a.0.0 (sym (decision (goal.at.returns-in-Refused c).After-decode-answer) ∙ a.1) in record { answer = ap Refused (c.unclear.ensures ∙ ap (λ (at : ℕ). unclear_at (at + a.0.0.place) a.0.0.lead) c.loop-k.invariant.1) ∙ sym told; output = λ e. absurd (text_refused (sym e)) }
+    let told = block_refused c.args.mode c.args.least_lead c.args.tones.now c.loop-k.k (part c.loop-k.at c.args.mode c.loop-k.codes) (set (goal.at.returns-in-Refused c).Start) (heard (goal.at.returns-in-Refused c).In-loop-k) (size (goal.at.returns-in-Refused c).In-loop-k) c.loop-k.invariant.4 c.args.count (Text (c.args.count * c.args.mode)) c.loop-k-test.true c.in-Refused.unclear (sym (decision (goal.at.returns-in-Refused c).After-decode-answer) ∙ c.in-Refused.is) in record { answer = ap Refused (c.unclear.ensures ∙ ap (λ (at : ℕ). unclear_at (at + c.in-Refused.unclear.place) c.in-Refused.unclear.lead) c.loop-k.invariant.1) ∙ sym told; output = λ e. absurd (text_refused (sym e)) }
 
 pub overflow_add-at-in-loop-k : goal.overflow_add-at-in-loop-k
 overflow_add-at-in-loop-k c = omega (arith, room (goal.at.overflow_add-at-in-loop-k c).In-loop-k)
 
 pub loop-k-preserved : goal.loop-k-preserved
-unfolding part
 loop-k-preserved c =
     let answer = sym (decision (goal.at.loop-k-preserved c).After-decode-answer) ∙ c.in-Text.is in
     let put : c.decode-answer.new.codes ≡ codes_of (characters_of c.args.mode (block_at c.args.tones.now c.loop-k.k)) =
     c.decode-answer.ensures.output
-    ∙ ap (λ (x : List ℕ). checked_into c.args.mode c.args.least_lead x (part c)) (part_block c.args.tones.now c.loop-k.k)
-    ∙ in_range.output c.args.mode c.args.least_lead (block_at c.args.tones.now c.loop-k.k) (part c) (heard (goal.at.loop-k-preserved c).In-loop-k)
-    ∙ block_codes_lem c.args.mode c.args.least_lead c.args.tones.now c.loop-k.k (part c) (set (goal.at.loop-k-preserved c).Start) (heard (goal.at.loop-k-preserved c).In-loop-k) (size (goal.at.loop-k-preserved c).In-loop-k) c.loop-k.invariant.4 _ answer in
+    ∙ ap (λ (x : List ℕ). checked_into c.args.mode c.args.least_lead x (part c.loop-k.at c.args.mode c.loop-k.codes)) (part_block c.args.tones.now c.loop-k.k)
+    ∙ in_range.output c.args.mode c.args.least_lead (block_at c.args.tones.now c.loop-k.k) (part c.loop-k.at c.args.mode c.loop-k.codes) (heard (goal.at.loop-k-preserved c).In-loop-k)
+    ∙ block_codes_lem c.args.mode c.args.least_lead c.args.tones.now c.loop-k.k (part c.loop-k.at c.args.mode c.loop-k.codes) (set (goal.at.loop-k-preserved c).Start) (heard (goal.at.loop-k-preserved c).In-loop-k) (size (goal.at.loop-k-preserved c).In-loop-k) c.loop-k.invariant.4 _ answer in
     let more = codes_more c.args.mode c.args.tones.now c.loop-k.k c.loop-k.at c.loop-k.codes c.decode-answer.new.codes c.args.codes.now c.loop-k.invariant.1 c.loop-k.invariant.3 put in (
       search rules,
       next_place c.loop-k.k c.args.mode c.loop-k.at c.loop-k.invariant.1,
       search rules,
       more,
-      block_clear c.args.mode c.args.least_lead c.args.tones.now c.loop-k.k (part c) (set (goal.at.loop-k-preserved c).Start) (heard (goal.at.loop-k-preserved c).In-loop-k) (size (goal.at.loop-k-preserved c).In-loop-k) c.loop-k.invariant.4 _ answer,
+      block_clear c.args.mode c.args.least_lead c.args.tones.now c.loop-k.k (part c.loop-k.at c.args.mode c.loop-k.codes) (set (goal.at.loop-k-preserved c).Start) (heard (goal.at.loop-k-preserved c).In-loop-k) (size (goal.at.loop-k-preserved c).In-loop-k) c.loop-k.invariant.4 _ answer,
     )
 
 pub returns : goal.returns

@@ -5,7 +5,6 @@ use native.Mathlib.Nat.{mul-le-mul_left}
 use native.Mathlib.Omega.{arith}
 use lib.ListN.{length}
 use borrow.Author.Rules.{rules}
-use borrow.Author.Tests.{not-true, not-false}
 use Rattle.lists.specs.Lists.{over}
 use Rattle.refusal.specs.Refused.{refused_at}
 use Rattle.refusal.specs.Checks.{is_mode, is_lead}
@@ -49,7 +48,7 @@ is_whole-requires c =
 pub returns-then-not-is_whole : goal.returns-then-not-is_whole
 returns-then-not-is_whole c =
     let both = refusal_told_lem _ _ _ _ _ c.at-then-not-is_whole.ensures
-          (refuses_count _ _ _ _ _ (mode_known (goal.at.returns-then-not-is_whole c).Else-not-is_mode) (lead_known (goal.at.returns-then-not-is_whole c).Else-not-is_lead) (sym c.is_whole.ensures ∙ c.if-not-is_whole.true)) in record { answer = both.0; output = both.1 }
+    (refuses_count _ _ _ _ _ (mode_known (goal.at.returns-then-not-is_whole c).Else-not-is_mode) (lead_known (goal.at.returns-then-not-is_whole c).Else-not-is_lead) (sym c.is_whole.ensures ∙ c.if-not-is_whole.true)) in record { answer = both.0; output = both.1 }
 
 pub overflow_mul-total : goal.overflow_mul-total
 overflow_mul-total c =
@@ -62,30 +61,32 @@ returns-then-text-total c =
 
 passed : (c : Else-text-total) → let a = c.args in Passed a.limit a.mode a.least_lead (length a.tones.now) (length a.text.now)
 passed c =
-    let mode_known : is_mode c.args.mode ≡ true = sym c.is_mode.ensures ∙ c.if-not-is_mode.false in
-    let lead_known : is_lead c.args.least_lead ≡ true = sym c.is_lead.ensures ∙ c.if-not-is_lead.false in
-    let whole_known : let a = c.args in is_whole a.limit a.mode (length a.tones.now) ≡ true = sym c.is_whole.ensures ∙ c.if-not-is_whole.false in
-    record { mode = mode_known; lead = lead_known; whole = whole_known; fits = c.if-text-total.false }
+    record {
+      mode = sym c.is_mode.ensures ∙ c.if-not-is_mode.false;
+      lead = sym c.is_lead.ensures ∙ c.if-not-is_lead.false;
+      whole = sym c.is_whole.ensures ∙ c.if-not-is_whole.false;
+      fits = c.if-text-total.false;
+    }
 
 -- the range check is by the mode's count of tones
 range : (c : After-check-range) → let a = c.args in c.check-range.result.bad ≡ first_bad_tone (2 ^ a.mode) a.tones.now
 range c =
-    let mode_known : is_mode c.args.mode ≡ true = sym c.is_mode.ensures ∙ c.if-not-is_mode.false in
-    let lead_known : is_lead c.args.least_lead ≡ true = sym c.is_lead.ensures ∙ c.if-not-is_lead.false in
-    let whole_known : let a = c.args in is_whole a.limit a.mode (length a.tones.now) ≡ true = sym c.is_whole.ensures ∙ c.if-not-is_whole.false in
-    let passed : let a = c.args in Passed a.limit a.mode a.least_lead (length a.tones.now) (length a.text.now) = record { mode = mode_known; lead = lead_known; whole = whole_known; fits = c.if-text-total.false } in
     let a = c.args in
-    bad_found _ _ c.check-range.ensures ∙ ap (λ (limit : ℕ). first_bad_tone limit a.tones.now) (c.tone_count.ensures ∙ mode_tones a.mode (passed).mode)
+    bad_found _ _ c.check-range.ensures ∙ ap (λ (limit : ℕ). first_bad_tone limit a.tones.now) (c.tone_count.ensures ∙ mode_tones a.mode (sym c.is_mode.ensures ∙ c.if-not-is_mode.false))
 
 hearable : (c : Else-range-tones) → let a = c.args in Hearable a.limit a.mode a.least_lead a.tones.now (length a.text.now)
 hearable c =
-    let mode_known : is_mode c.args.mode ≡ true = sym c.is_mode.ensures ∙ c.if-not-is_mode.false in
-    let lead_known : is_lead c.args.least_lead ≡ true = sym c.is_lead.ensures ∙ c.if-not-is_lead.false in
-    let whole_known : let a = c.args in is_whole a.limit a.mode (length a.tones.now) ≡ true = sym c.is_whole.ensures ∙ c.if-not-is_whole.false in
-    let passed : let a = c.args in Passed a.limit a.mode a.least_lead (length a.tones.now) (length a.text.now) = record { mode = mode_known; lead = lead_known; whole = whole_known; fits = c.if-text-total.false } in
-    let range : let a = c.args in c.check-range.result.bad ≡ first_bad_tone (2 ^ a.mode) a.tones.now = let a = c.args in
-    bad_found _ _ c.check-range.ensures ∙ ap (λ (limit : ℕ). first_bad_tone limit a.tones.now) (c.tone_count.ensures ∙ mode_tones a.mode (passed).mode) in
-    record { passed = passed; in_range = omega (arith, range, c.if-range-tones.false) }
+    let mode : is_mode c.args.mode ≡ true = sym c.is_mode.ensures ∙ c.if-not-is_mode.false in
+    let range = bad_found _ _ c.check-range.ensures ∙ ap (λ (limit : ℕ). first_bad_tone limit c.args.tones.now) (c.tone_count.ensures ∙ mode_tones c.args.mode mode) in
+    record {
+      passed = record {
+        mode = mode;
+        lead = sym c.is_lead.ensures ∙ c.if-not-is_lead.false;
+        whole = sym c.is_whole.ensures ∙ c.if-not-is_whole.false;
+        fits = c.if-text-total.false;
+      };
+      in_range = omega (arith, range, c.if-range-tones.false);
+    }
 
 pub returns-then-range-tones : goal.returns-then-range-tones
 returns-then-range-tones c =
@@ -114,22 +115,19 @@ returns-in-Refused c =
 -- the codes collected from accepted blocks
 collected : (c : After-collect-heard) {n : ℕ} → c.collect-heard.result ≡ Text n → let a = c.args in
     let count = length a.tones.now / 64 in c.collect-heard.new.codes ≡ over (codes_of (heard_characters a.mode a.tones.now count)) a.codes.now
-collected c e =
-    let judged : let a = c.args in
-    c.collect-heard.result ≡ unless_unclear a.least_lead (message_characters a.mode a.tones.now) (Text (length a.tones.now / 64 * a.mode)) = c.collect-heard.ensures.answer in
-    c.collect-heard.ensures.output (e ∙ sym (text_told _ _ _ _ (sym (judged) ∙ e)).1)
+collected c e = c.collect-heard.ensures.output (e ∙ sym (text_told _ _ _ _ (sym c.collect-heard.ensures.answer ∙ e)).1)
 
 pub slice_bounds-deliver-end : goal.slice_bounds-deliver-end
 slice_bounds-deliver-end c =
-    let e = c.enum_told-1.given.1 in
+    let e = c.in-Text.is in
     let a = c.args in
-    omega (arith, collected_fit a.mode a.tones.now (length a.tones.now / 64) c.collect.new.1.1.1.1.0 _ (collected (goal.at.slice_bounds-deliver-end c).After-collect-heard e))
+    omega (arith, collected_fit a.mode a.tones.now (length a.tones.now / 64) c.collect-heard.new.codes _ (collected (goal.at.slice_bounds-deliver-end c).After-collect-heard e))
 
 pub returns-in-Text : goal.returns-in-Text
 unfolding message_characters
 returns-in-Text c =
-    let e = c.enum_told.given.1 in
+    let e = c.in-Text.is in
     let a = c.args in
-    let codes = collected_front a.mode a.tones.now (length a.tones.now / 64) c.collect.new.1.1.1.1.0 _ (collected (goal.at.returns-in-Text c).After-collect-heard e) in let both = delivery_told a.limit a.mode a.least_lead a.tones.now a.text.now codes
-          (judges _ _ _ _ _ (hearable (goal.at.returns-in-Text c).Else-range-tones) ∙ clear_told _ _ _ (text_told _ _ _ _ (sym (judged (goal.at.returns-in-Text c).After-collect-heard) ∙ e)).0)
-          c.deliver.ensures.answer c.deliver.ensures.output in record { answer = both.0; output = both.1 }
+    let codes = collected_front a.mode a.tones.now (length a.tones.now / 64) c.collect-heard.new.codes _ (collected (goal.at.returns-in-Text c).After-collect-heard e) in let both = delivery_told a.limit a.mode a.least_lead a.tones.now a.text.now codes
+    (judges _ _ _ _ _ (hearable (goal.at.returns-in-Text c).Else-range-tones) ∙ clear_told _ _ _ (text_told _ _ _ _ (sym (judged (goal.at.returns-in-Text c).After-collect-heard) ∙ e)).0)
+    c.deliver.ensures.answer c.deliver.ensures.output in record { answer = both.0; output = both.1 }

@@ -2,7 +2,6 @@ use mathlib.Core.Path.{sym, ◌∙◌, ap}
 use Prim.Native.Nat.{◌≤◌}
 use native.Mathlib.Omega.{arith}
 use lib.ListN.{length}
-use borrow.Author.Rules.{rules}
 use Rattle.block_decoder.specs.Decoding.{heard_into}
 use Rattle.block_decoder.specs.declared.Decoded.{Decoded}
 use Rattle.delivery.proofs.TextCases.{text_delivered}

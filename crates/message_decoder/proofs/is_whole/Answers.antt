@@ -1,5 +1,4 @@
 use native.Mathlib.Omega.{arith}
-use borrow.Author.Rules.{rules}
 use borrow.Author.Tests.{eq-eqb, ne_eqb}
 use Rattle.message_encoder.specs.Blocks.{block_count}
 use Rattle.message_encoder.proofs.Counts.{count_small}

@@ -1,10 +1,10 @@
 use mathlib.Core.Path.{◌≡◌, refl, ◌∙◌, ap}
 use mathlib.Core.List.{List}
-use Prim.Native.Nat.{ℕ, ◌≤◌, ◌-◌}
+use Prim.Native.Nat.{ℕ}
 use native.Mathlib.Omega.{arith}
-use lib.ListN.{length, length-set}
+use lib.ListN.{length-set}
 use borrow.Author.Rules.{rules}
-use Rattle.lists.specs.Lists.{tab, num, over}
+use Rattle.lists.specs.Lists.{over}
 use Rattle.lists.proofs.Fronts.{over_start, over_set}
 use Rattle.lists.proofs.Tables.{tab_take}
 use Rattle.message_decoder.proofs.put_text.Goals as goal

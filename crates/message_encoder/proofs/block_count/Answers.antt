@@ -1,5 +1,4 @@
 use mathlib.Core.Path.{refl}
-use borrow.Author.Rules.{rules}
 use Rattle.message_encoder.specs.Blocks.{block_count}
 use Rattle.message_encoder.proofs.block_count.Goals as goal
 

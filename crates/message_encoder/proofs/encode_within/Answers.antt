@@ -3,8 +3,6 @@ use mathlib.Core.Bool.{true}
 use Prim.Native.Nat.{ℕ, ◌*◌, ◌≤◌}
 use native.Mathlib.Omega.{arith}
 use lib.ListN.{length}
-use borrow.Author.Rules.{rules}
-use borrow.Author.Tests.{not-true, not-false}
 use Rattle.refusal.specs.Refused.{refused_at}
 use Rattle.refusal.specs.Checks.{is_mode}
 use Rattle.refusal.proofs.Limits.{mode_range}
@@ -50,7 +48,7 @@ returns-then-tones-count c =
 pub returns-then-bad-text : goal.returns-then-bad-text
 returns-then-bad-text c =
     let both = refusal_told_lem _ _ _ _ (c.at-then-bad-text.ensures ∙ ap (refused_at 6) c.first_bad_code-bad.ensures)
-          (refuses_code _ _ _ _ (mode_known (goal.at.returns-then-bad-text c).Else-not-is_mode) c.if-limit-text.false (rw c.block_count-count.ensures at c.if-tones-count.false) (rw c.first_bad_code-bad.ensures at c.if-bad-text.true)) in record { answer = both.0; output = both.1 }
+    (refuses_code _ _ _ _ (mode_known (goal.at.returns-then-bad-text c).Else-not-is_mode) c.if-limit-text.false (rw c.block_count-count.ensures at c.if-tones-count.false) (rw c.first_bad_code-bad.ensures at c.if-bad-text.true)) in record { answer = both.0; output = both.1 }
 
 -- what the checks of mode and text leave
 sendable : (c : Else-bad-text) → let a = c.args in Sendable a.limit a.mode a.text.now

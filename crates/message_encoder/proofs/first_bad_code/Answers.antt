@@ -1,17 +1,13 @@
 use mathlib.Core.Path.{◌≡◌, sym, ◌∙◌, ap}
 use mathlib.Core.Bool.{true, false, not}
-use mathlib.Core.Logic.{⊎_elim}
-use Prim.Native.Nat.{◌-◌, ◌≤◌}
 use native.Mathlib.Omega.{arith}
-use lib.ListN.{length}
 use borrow.Author.Rules.{rules}
-use borrow.Author.Tests.{ltb-true, ltb-false}
 use Rattle.lists.specs.Lists.{num}
-use Rattle.lists.specs.Places.{scan}
 use Rattle.lists.proofs.Places.{scan_start, scan_hit, scan_miss, scan_end}
 use Rattle.refusal.proofs.Limits.{within_true, below_low, above_high}
 use Rattle.message_encoder.specs.Encoding.{bad_text_code, first_bad_text_code}
 use Rattle.message_encoder.proofs.first_bad_code.Goals as goal
+use Rattle.message_encoder.proofs.first_bad_code.Goals.{then-code-lt1-via-then-code-lt1, then-code-lt1-via-else-code-lt1+then-code-gt127}
 
 pub loop-i-init : goal.loop-i-init
 unfolding first_bad_text_code
@@ -21,13 +17,13 @@ pub returns-then-code-lt1 : goal.returns-then-code-lt1
 returns-then-code-lt1 c =
     let code = num c.args.text.now c.loop-i.i in
     let here : bad_text_code c.args.text.now c.loop-i.i ≡ true =
-    ap not (⊎_elim (λ w. below_low 1 127 code (omega (arith, w.taken))) (λ w. above_high 1 127 code (ltb-true _ _ w.1.taken)) c.then-code-lt1.branch) in
+    ap not (elim c.then-code-lt1.branch [ then-code-lt1-via-then-code-lt1 w ↦ below_low 1 127 code (omega (arith, w)) | then-code-lt1-via-else-code-lt1+then-code-gt127 w ↦ above_high 1 127 code (omega (arith, w)) ]) in
     sym (scan_hit _ c.loop-i.i _ c.loop-i-test.true here) ∙ c.loop-i.invariant.1
 
 pub loop-i-preserved : goal.loop-i-preserved
 loop-i-preserved c =
     let here : bad_text_code c.args.text.now c.loop-i.i ≡ false =
-    ap not (within_true 1 127 (num c.args.text.now c.loop-i.i) c.if-code-lt1.false (ltb-false _ _ c.if-code-gt127.false-raw)) in
+    ap not (within_true 1 127 (num c.args.text.now c.loop-i.i) c.if-code-lt1.false (omega arith)) in
     (search rules, scan_miss _ c.loop-i.i _ c.loop-i-test.true here ∙ c.loop-i.invariant.1)
 
 pub returns : goal.returns

@@ -3,7 +3,7 @@ use mathlib.Core.List.{List}
 use Prim.Native.Nat.{ℕ, ◌+◌, ◌-◌, ◌*◌, ◌≤◌}
 use native.Mathlib.Nat.{zero-mul}
 use native.Mathlib.Omega.{arith}
-use lib.ListN.{length, take, drop}
+use lib.ListN.{take, drop}
 use borrow.Author.Rules.{rules}
 use Rattle.lists.specs.Lists.{joined, over}
 use Rattle.refusal.proofs.Limits.{mode_range}
@@ -46,19 +46,19 @@ pub overflow_add-at : goal.overflow_add-at
 overflow_add-at c = omega (arith, room (goal.at.overflow_add-at c).In-loop-k)
 
 -- the part lent holds the block's tones
-put : (c : After-encode_block) → let a = c.args in c.encode_block.new.tones ≡ tones_of a.mode (block_codes a.mode a.text.now c.loop.k)
+put : (c : After-encode_block) → let a = c.args in c.encode_block.new.tones ≡ tones_of a.mode (block_codes a.mode a.text.now c.loop-k.k)
 put c =
     let a = c.args in
-    let codes : take (a.mode - 0) c.codes_from-codes.result ≡ block_codes a.mode a.text.now c.loop.k =
-    ap (take (a.mode - 0)) c.codes_from-codes.ensures ∙ codes_handed a.mode a.text.now c.loop.k c.loop.at c.loop.invariant.1 in
-    let part = take (64 * c.loop.k + 64 - 64 * c.loop.k) (drop (64 * c.loop.k) c.loop.tones) in
-    c.encode_block.ensures.output ∙ ap (λ (x : List ℕ). encoded_into a.mode x part) codes ∙ block_written a.mode a.text.now c.loop.k part c.requires.mode c.requires.codes (part_length c.loop.tones (64 * c.loop.k) 64 (omega arith))
+    let codes : take (a.mode - 0) c.codes_from-codes.result ≡ block_codes a.mode a.text.now c.loop-k.k =
+    ap (take (a.mode - 0)) c.codes_from-codes.ensures ∙ codes_handed a.mode a.text.now c.loop-k.k c.loop-k.at c.loop-k.invariant.1 in
+    let part = take (64 * c.loop-k.k + 64 - 64 * c.loop-k.k) (drop (64 * c.loop-k.k) c.loop-k.tones) in
+    c.encode_block.ensures.output ∙ ap (λ (x : List ℕ). encoded_into a.mode x part) codes ∙ block_written a.mode a.text.now c.loop-k.k part c.requires.mode c.requires.codes (part_length c.loop-k.tones (64 * c.loop-k.k) 64 (omega arith))
 
 pub loop-k-preserved : goal.loop-k-preserved
 loop-k-preserved c =
     let a = c.args in
-    let more = blocks_more a.mode a.text.now c.loop.k c.loop.tones c.encode_block.new.tones a.tones.now c.loop.invariant.3 (put (goal.at.loop-k-preserved c).After-encode_block) in
-    (search rules, next_place c.loop.k a.mode c.loop.at c.loop.invariant.1, search rules, more)
+    let more = blocks_more a.mode a.text.now c.loop-k.k c.loop-k.tones c.encode_block.new.tones a.tones.now c.loop-k.invariant.3 (put (goal.at.loop-k-preserved c).After-encode_block) in
+    (search rules, next_place c.loop-k.k a.mode c.loop-k.at c.loop-k.invariant.1, search rules, more)
 
 pub returns : goal.returns
 returns c =

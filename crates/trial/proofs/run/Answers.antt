@@ -1,6 +1,5 @@
 use mathlib.Core.Path.{sym}
 use Prim.Native.Nat.{◌≤◌}
-use borrow.Author.Rules.{rules}
 use lib.ListN.{length}
 use lib.Seq.{length-take-le}
 use Rattle.trial.proofs.Trials.{sent_fits, tried}
@@ -27,4 +26,4 @@ slice_bounds-decode_block-end-2 c = sym (length-take-le _ _ (fits (goal.at.slice
 
 pub returns : goal.returns
 returns c =
-    tried _ _ _ _ _ _ _ _ _ _ _ _ _ _ _ _ c.encode-block.ensures c.sent_count.ensures c.replaced-in.ensures c.missing-in.ensures c.decode_block-first.ensures c.decode_block-second.ensures
+    tried _ _ _ _ _ _ _ _ _ _ _ _ _ _ _ _ (c.encode_block-encoded.ensures.answer, c.encode_block-encoded.ensures.output) c.sent_count-sent.ensures c.replaced_in-replaced.ensures c.missing_in-missing.ensures (c.decode_block-first.ensures.answer, c.decode_block-first.ensures.output) (c.decode_block-second.ensures.answer, c.decode_block-second.ensures.output)

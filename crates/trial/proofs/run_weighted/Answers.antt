@@ -1,6 +1,5 @@
 use mathlib.Core.Path.{refl, sym}
 use Prim.Native.Nat.{◌≤◌}
-use borrow.Author.Rules.{rules}
 use lib.ListN.{length}
 use lib.Seq.{length-take-le}
 use Rattle.weight_range.specs.Range.{throughout}
@@ -30,4 +29,4 @@ slice_bounds-decode_weighted-end-2 c = sym (length-take-le _ _ (fits (goal.at.sl
 pub returns : goal.returns
 unfolding throughout
 returns c =
-    weighted_tried _ _ _ _ _ _ _ _ _ _ _ _ _ _ _ _ _ c.encode-block.ensures c.sent_count.ensures c.damage-in.ensures c.decode_weighted-first.ensures c.decode_weighted-second.ensures refl
+    weighted_tried _ _ _ _ _ _ _ _ _ _ _ _ _ _ _ _ _ (c.encode_block-encoded.ensures.answer, c.encode_block-encoded.ensures.output) c.sent_count-sent.ensures c.damage_in-damage.ensures (c.decode_weighted-first.ensures.answer, c.decode_weighted-first.ensures.output) (c.decode_weighted-second.ensures.answer, c.decode_weighted-second.ensures.output) refl

@@ -1,13 +1,8 @@
-use mathlib.Core.Path.{◌≡◌, refl}
-use mathlib.Core.Logic.{⊎_elim}
+use mathlib.Core.Path.{◌≡◌}
 use Prim.Native.Nat.{◌≤◌, ◌-◌}
-use native.Mathlib.Omega.{arith}
 use lib.ListN.{length}
-use borrow.Author.Rules.{rules}
-use borrow.Author.Tests.{lt-ltb, le-ltb}
 use Rattle.lists.specs.Sums.{total}
-use Rattle.demands.specs.Demand.{flag, is_replaced, replaced_in}
-use Rattle.trial.proofs.Tallies.{tally_hit, tally_miss}
+use Rattle.demands.specs.Demand.{flag, is_replaced}
 use Rattle.trial.proofs.counts.replaced_in.Given as goal
 
 abbrev pub invariant-loop-t : goal.invariant-loop-t

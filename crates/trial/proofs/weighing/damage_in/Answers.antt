@@ -1,5 +1,4 @@
 use mathlib.Core.Path.{◌≡◌, refl, ◌∙◌, ap₂}
-use Prim.Native.Nat.{◌≤◌, ◌-◌}
 use native.Mathlib.Omega.{arith}
 use lib.ListN.{length}
 use borrow.Author.Rules.{rules}
@@ -8,7 +7,7 @@ use Rattle.lists.specs.Caps.{capped}
 use Rattle.demands.specs.Demand.{is_missing, damage_at, damage_in}
 use Rattle.trial.specs.Internal.{damage_of}
 use Rattle.trial.proofs.Damages.{capped_more}
-use Rattle.trial.proofs.damage.damage_in.Goals as goal
+use Rattle.trial.proofs.weighing.damage_in.Goals as goal
 
 pub loop-t-init : goal.loop-t-init
 unfolding total capped

@@ -1,6 +1,5 @@
-use borrow.Author.Rules.{rules}
 use borrow.Author.Tests.{lt-ltb, le-ltb, eq-eqb, ne_eqb}
-use Rattle.trial.proofs.damage.is_replaced.Goals as goal
+use Rattle.trial.proofs.weighing.is_replaced.Goals as goal
 
 pub returns-then-sent-t : goal.returns-then-sent-t
 returns-then-sent-t c = rw (le-ltb _ _ c.if-sent-t.true)

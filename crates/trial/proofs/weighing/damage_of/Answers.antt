@@ -1,7 +1,6 @@
 use native.Mathlib.Omega.{arith}
-use borrow.Author.Rules.{rules}
 use Rattle.trial.specs.Internal.{damage_of}
-use Rattle.trial.proofs.damage.damage_of.Goals as goal
+use Rattle.trial.proofs.weighing.damage_of.Goals as goal
 
 pub returns-then-missing : goal.returns-then-missing
 unfolding damage_of
