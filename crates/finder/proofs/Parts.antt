@@ -5,7 +5,7 @@ use Prim.Native.Nat.{ℕ, ◌+◌, ◌-◌, ◌≤◌}
 use native.Mathlib.Omega.{arith}
 use lib.ListN.{length}
 use denote.Ref.{Bor}
-use borrow.Rule.Slice.PartAt.{sl_part}
+use borrow.Rule.Slice.PartAt.{sl_partˢ}
 use borrow.Rule.Slice.Shared.{by_size}
 use Rattle.refusal.specs.declared.Refusal.{Refusal}
 use Rattle.finder.specs.declared.Finding.{Finding}
@@ -16,10 +16,10 @@ pub start_fits : (run : List ℕ) (answer : Finding) (start : ℕ) → answer �
 start_fits run answer start e h = rw e at h.fits
 
 module _ (run : Bor (List ℕ)) (answer : Finding) where
-  pub is_part : (start name : ℕ) → answer ≡ Start start → PartOf run (sl_part run (by_size 2 start run.ref_ptr.1) start (start + 64) name) answer
-  is_part start name e =
+  pub is_part : (start : ℕ) → answer ≡ Start start → PartOf run (sl_partˢ run (by_size 2 start run.ref_ptr.1) start (start + 64)) answer
+  is_part start e =
       let n : start + 64 - start ≡ 64 = omega arith in
       rw (e, n) (record { tones = refl; block = refl; place = refl })
 
-  pub no_part : (r : Refusal) (name : ℕ) → answer ≡ Refused r → PartOf run (sl_part run (by_size 2 0 run.ptr.1) 0 0 name) answer
-  no_part r name e = rw e (record { tones = refl; block = refl; place = refl })
+  pub no_part : (r : Refusal) → answer ≡ Refused r → PartOf run (sl_partˢ run (by_size 2 0 run.ref_ptr.1) 0 0) answer
+  no_part r e = rw e (record { tones = refl; block = refl; place = refl })

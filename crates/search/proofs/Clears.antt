@@ -15,7 +15,6 @@ use Rattle.lists.proofs.Fronts.{over_tab_whole}
 use Rattle.lists.proofs.Places.{first_ext, first_none}
 use Rattle.refusal.specs.Checks.{is_mode, is_lead, IsSet}
 use Rattle.refusal.proofs.Limits.{mode_range}
-use Rattle.decision.specs.Decision.{none}
 use Rattle.decision.specs.declared.Character.{Character}
 use Rattle.chain.specs.Tables.{symbol_of, place_value}
 use Rattle.block_decoder.specs.Decoding.{plain, characters_of, lead_in, first_unclear, unless_unclear, refused, decode_block}

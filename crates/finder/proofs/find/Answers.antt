@@ -2,23 +2,22 @@ use Prim.Native.Nat.{◌+◌, ◌≤◌}
 use native.Mathlib.Omega.{arith}
 use lib.ListN.{length}
 use Rattle.finder.proofs.FindCases.{found_fits, finds, refuses}
-use borrow.Author.Rules.{rules}
 use Rattle.finder.proofs.find.Goals as goal
-use Rattle.finder.proofs.find.Goals.{In-Start-2}
+use Rattle.finder.proofs.find.Goals.{In-Start}
 
 -- the 64 tones lie within the run
-fits : (c : In-Start-2) → c.in-Start.start + 64 ≤ length c.args.run.now
+fits : (c : In-Start) → c.in-Start.start + 64 ≤ length c.args.run.now
 fits c =
     found_fits _ _ c.args.run.now _ _ _ c.locate-answer.ensures c.in-Start.is
 
 pub overflow_add-heard : goal.overflow_add-heard
-overflow_add-heard c = omega (arith, fits (goal.at.overflow_add-heard c).In-Start-2)
+overflow_add-heard c = omega (arith, fits (goal.at.overflow_add-heard c).In-Start)
 
 pub offset_bounds-run-start : goal.offset_bounds-run-start
-offset_bounds-run-start c = omega (arith, fits (goal.at.offset_bounds-run-start c).In-Start-2)
+offset_bounds-run-start c = omega (arith, fits (goal.at.offset_bounds-run-start c).In-Start)
 
 pub slice_bounds-heard-end : goal.slice_bounds-heard-end
-slice_bounds-heard-end c = omega (arith, fits (goal.at.slice_bounds-heard-end c).In-Start-2)
+slice_bounds-heard-end c = omega (arith, fits (goal.at.slice_bounds-heard-end c).In-Start)
 
 pub returns-in-Start : goal.returns-in-Start
 returns-in-Start c =

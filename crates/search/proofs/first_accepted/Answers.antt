@@ -1,6 +1,5 @@
 use mathlib.Core.Path.{◌≡◌, sym, ◌∙◌}
 use mathlib.Core.Bool.{true}
-use borrow.Author.Tests.{not-true, not-false}
 use Rattle.refusal.specs.Checks.{is_mode}
 use Rattle.search.proofs.Clears.{too_short, too_long, searched, no_mode, no_lead}
 use borrow.Author.Rules.{rules}

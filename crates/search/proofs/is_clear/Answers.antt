@@ -1,5 +1,4 @@
 use native.Mathlib.Omega.{arith}
-use borrow.Author.Rules.{rules}
 use Rattle.refusal.proofs.Limits.{mode_range}
 use Rattle.search.proofs.Lasts.{clear_last}
 use Rattle.search.proofs.is_clear.Goals as goal

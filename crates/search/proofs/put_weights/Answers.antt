@@ -1,11 +1,8 @@
 use mathlib.Core.Path.{◌≡◌, refl}
-use Prim.Native.Nat.{◌≤◌, ◌-◌}
 use native.Mathlib.Omega.{arith}
 use lib.ListN.{length, length-set}
 use borrow.Author.Rules.{rules}
-use Rattle.lists.specs.Lists.{tab, num, over}
 use Rattle.lists.proofs.Fronts.{over_start, over_set}
-use Rattle.checked_block.specs.Checked.{weight_below}
 use Rattle.search.proofs.put_weights.Goals as goal
 
 pub loop-t-init : goal.loop-t-init

@@ -1,11 +1,7 @@
-use mathlib.Core.Path.{◌≡◌, refl, ◌∙◌}
+use mathlib.Core.Path.{◌≡◌}
 use Prim.Native.Nat.{◌+◌, ◌≤◌, ◌-◌}
-use native.Mathlib.Omega.{arith}
-use lib.Dec.{lit≤}
 use lib.ListN.{replicate}
-use borrow.Author.Rules.{rules}
 use Rattle.lists.specs.Lists.{tab, num, over}
-use Rattle.lists.proofs.Fronts.{over_start, over_set, over_tab_whole}
 use Rattle.search.proofs.window.Given as goal
 
 abbrev pub invariant-loop-t : goal.invariant-loop-t
