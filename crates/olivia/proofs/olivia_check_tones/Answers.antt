@@ -3,8 +3,7 @@ use mathlib.Core.Bool.{true, false}
 use mathlib.Core.List.{List}
 use Prim.Native.Nat.{ℕ, ◌<◌, ◌≤◌, ◌^◌}
 use lib.ListN.{length}
-use borrow.Author.Rules.{rules}
-use borrow.Author.Tests.{lt-ltb, le-ltb, not-true, not-false}
+use borrow.Author.Tests.{lt-ltb, le-ltb}
 use Rattle.refusal.specs.Checks.{is_mode}
 use Rattle.refusal.proofs.Limits.{mode_tones}
 use Rattle.tone_range.specs.Range.{first_bad_tone, looked_at, range_of}
@@ -41,16 +40,19 @@ mode_known c = sym c.is_mode.ensures ∙ c.if-not-is_mode.false
 -- the range check is by the mode's count of tones
 range : (c : After-check-range) → let a = c.args in c.check-range.result ≡ range_of (2 ^ a.mode) a.tones.now
 range c =
-    let mode_known : is_mode c.args.mode ≡ true = sym c.is_mode.ensures ∙ c.if-not-is_mode.false in
     let a = c.args in
-    c.check-range.ensures ∙ ap (λ (limit : ℕ). range_of limit a.tones.now) (c.tone_count.ensures ∙ mode_tones a.mode (mode_known))
+    c.check-range.ensures ∙ ap (λ (limit : ℕ). range_of limit a.tones.now) (c.tone_count.ensures ∙ mode_tones a.mode (sym c.is_mode.ensures ∙ c.if-not-is_mode.false))
 
 pub returns-then-range-tones : goal.returns-then-range-tones
 returns-then-range-tones c =
+    let at = goal.at.returns-then-range-tones c in
+    let r = range at.After-check-range in
     c.looked-then-range-tones.ensures
-    ∙ bad_tone_lem _ _ (mode_known (goal.at.returns-then-range-tones c).Else-not-is_mode) c.check-range.result.bad c.check-range.result.looked (bad_found _ _ (range (goal.at.returns-then-range-tones c).After-check-range)) (looked_found _ _ (range (goal.at.returns-then-range-tones c).After-check-range)) c.if-range-tones.true
+    ∙ bad_tone_lem _ _ (mode_known at.Else-not-is_mode) c.check-range.result.bad c.check-range.result.looked (bad_found _ _ r) (looked_found _ _ r) c.if-range-tones.true
 
 pub returns : goal.returns
 returns c =
+    let at = goal.at.returns c in
+    let r = range at.After-check-range in
     c.looked-2.ensures
-    ∙ good_tones _ _ (mode_known (goal.at.returns c).Else-not-is_mode) c.check-range.result.bad c.check-range.result.looked (bad_found _ _ (range (goal.at.returns c).After-check-range)) (looked_found _ _ (range (goal.at.returns c).After-check-range)) c.if-range-tones.false
+    ∙ good_tones _ _ (mode_known at.Else-not-is_mode) c.check-range.result.bad c.check-range.result.looked (bad_found _ _ r) (looked_found _ _ r) c.if-range-tones.false

@@ -1,5 +1,4 @@
 use mathlib.Core.Path.{◌∙◌, ap}
-use borrow.Author.Rules.{rules}
 use Rattle.told.specs.Told.{decoded_told}
 use Rattle.told.proofs.Kept.{heard_kept}
 use Rattle.olivia.proofs.Carried.{message_heard_small}
@@ -8,4 +7,5 @@ use Rattle.olivia.proofs.olivia_decode_message.Goals as goal
 pub returns : goal.returns
 returns c =
     let called = c.decode_message in
-    let kept = heard_kept called.result (rw called.ensures.0 (message_heard_small _ _ _ _)) in record { answer = c.decoded.ensures ∙ ap decoded_told (kept ∙ called.ensures.0); output = called.ensures.1 }
+    let kept = heard_kept called.result (rw called.ensures.answer (message_heard_small _ _ _ _)) in
+    record { answer = c.decoded.ensures ∙ ap decoded_told (kept ∙ called.ensures.answer); output = called.ensures.output }

@@ -1,5 +1,4 @@
 use mathlib.Core.Path.{◌∙◌, ap}
-use borrow.Author.Rules.{rules}
 use Rattle.told.specs.Told.{block_told}
 use Rattle.told.proofs.Kept.{block_kept}
 use Rattle.olivia.proofs.Carried.{block_heard_small}
@@ -8,4 +7,5 @@ use Rattle.olivia.proofs.olivia_decode_weighted.Goals as goal
 pub returns : goal.returns
 returns c =
     let called = c.decode_weighted in
-    let kept = block_kept called.result (rw called.ensures.0 (block_heard_small _ _ _ _ _ _)) in record { answer = c.block.ensures ∙ ap block_told (kept ∙ called.ensures.0); output = called.ensures.1 }
+    let kept = block_kept called.result (rw called.ensures.answer (block_heard_small _ _ _ _ _ _)) in
+    record { answer = c.block.ensures ∙ ap block_told (kept ∙ called.ensures.answer); output = called.ensures.output }

@@ -1,5 +1,4 @@
 use mathlib.Core.Path.{◌∙◌, ap}
-use borrow.Author.Rules.{rules}
 use Rattle.told.specs.Told.{encoded_told}
 use Rattle.told.proofs.Kept.{sent_kept}
 use Rattle.olivia.proofs.Carried.{block_sent_small}
@@ -8,4 +7,5 @@ use Rattle.olivia.proofs.olivia_encode_block.Goals as goal
 pub returns : goal.returns
 returns c =
     let called = c.encode_block in
-    let kept = sent_kept called.result (rw called.ensures.0 (block_sent_small _ _ _)) in record { answer = c.encoded.ensures ∙ ap encoded_told (kept ∙ called.ensures.0); output = called.ensures.1 }
+    let kept = sent_kept called.result (rw called.ensures.answer (block_sent_small _ _ _)) in
+    record { answer = c.encoded.ensures ∙ ap encoded_told (kept ∙ called.ensures.answer); output = called.ensures.output }

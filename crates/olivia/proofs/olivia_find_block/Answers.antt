@@ -1,5 +1,4 @@
 use mathlib.Core.Path.{◌∙◌, ap}
-use borrow.Author.Rules.{rules}
 use Rattle.told.specs.Told.{found_told}
 use Rattle.told.proofs.Kept.{found_kept}
 use Rattle.olivia.proofs.Carried.{found_small}
@@ -9,4 +8,5 @@ pub returns : goal.returns
 returns c =
     let called = c.find in
     let mode = c.args.mode in
-    let kept = found_kept called.result (rw called.ensures.0 (found_small _ _ _ _)) in record { answer = c.found.ensures ∙ ap (found_told mode) (kept ∙ called.ensures.0); output = called.ensures.1 }
+    let kept = found_kept called.result (rw called.ensures.answer (found_small _ _ _ _)) in
+    record { answer = c.found.ensures ∙ ap (found_told mode) (kept ∙ called.ensures.answer); output = called.ensures.output }

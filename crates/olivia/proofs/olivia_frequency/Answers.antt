@@ -1,6 +1,5 @@
 use mathlib.Core.Path.{sym, ◌∙◌, ap}
 use native.Mathlib.Omega.{arith}
-use borrow.Author.Rules.{rules}
 use lib.Ieee.{of_bits, odd}
 use Rattle.scaled.specs.Exact.{scaled}
 use Rattle.told.proofs.Kept.{small_kept}

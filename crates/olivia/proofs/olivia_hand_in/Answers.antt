@@ -6,7 +6,6 @@ use lib.ListN.{length}
 use Rattle.told.specs.Told.{handed_told}
 use Rattle.told.proofs.Kept.{handed_carries, handed_kept}
 use Rattle.olivia.proofs.Carried.{handed_small}
-use borrow.Author.Rules.{rules}
 use Rattle.olivia.proofs.olivia_hand_in.Goals as goal
 use Rattle.olivia.proofs.olivia_hand_in.Goals.{After-hand_in}
 
@@ -21,6 +20,6 @@ returns c =
     record {
       answer = called.result;
       told = c.handed.ensures ∙ ap handed_told (handed_kept called.result (place_small (goal.at.returns c).After-hand_in (ℕ_discrete (length c.args.state.now) 1532)));
-      run = called.ensures.0;
-      any = called.ensures.1;
+      run = called.ensures.run;
+      any = called.ensures.any;
     }

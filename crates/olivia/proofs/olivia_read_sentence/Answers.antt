@@ -1,5 +1,4 @@
 use mathlib.Core.Path.{◌∙◌, ap}
-use borrow.Author.Rules.{rules}
 use Rattle.sentence_laws.proofs.Sizes.{read_small}
 use Rattle.told.specs.Told.{read_told}
 use Rattle.told.proofs.Kept.{read_kept}
@@ -7,6 +6,6 @@ use Rattle.olivia.proofs.olivia_read_sentence.Goals as goal
 
 pub returns : goal.returns
 returns c =
-    let called = c.read_sentence_lem in
+    let called = c.read_sentence in
     let kept = read_kept called.result (rw called.ensures (read_small _)) in
     c.read.ensures ∙ ap read_told (kept ∙ called.ensures)

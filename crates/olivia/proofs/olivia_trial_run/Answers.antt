@@ -1,5 +1,4 @@
 use mathlib.Core.Path.{◌∙◌, ap}
-use borrow.Author.Rules.{rules}
 use Rattle.trial.specs.Tried.{trial_of}
 use Rattle.told.specs.Told.{encoded_told, decoded_told}
 use Rattle.told.proofs.Kept.{sent_kept, heard_kept}

@@ -1,5 +1,4 @@
 use mathlib.Core.Path.{◌∙◌, ap}
-use borrow.Author.Rules.{rules}
 use Rattle.told.specs.Told.{energies_told}
 use Rattle.told.proofs.Kept.{energies_kept}
 use Rattle.olivia.proofs.Carried.{energies_small}

@@ -1,5 +1,4 @@
 use mathlib.Core.Path.{◌∙◌, ap}
-use borrow.Author.Rules.{rules}
 use Rattle.sentence_laws.proofs.Sizes.{written_small}
 use Rattle.told.specs.Told.{written_told}
 use Rattle.told.proofs.Kept.{written_kept}
@@ -8,4 +7,5 @@ use Rattle.olivia.proofs.olivia_write_sentence.Goals as goal
 pub returns : goal.returns
 returns c =
     let called = c.write_sentence in
-    let kept = written_kept called.result (rw called.ensures.0 (written_small _ _)) in record { answer = c.written.ensures ∙ ap written_told (kept ∙ called.ensures.0); output = called.ensures.1 }
+    let kept = written_kept called.result (rw called.ensures.answer (written_small _ _)) in
+    record { answer = c.written.ensures ∙ ap written_told (kept ∙ called.ensures.answer); output = called.ensures.output }

@@ -1,5 +1,4 @@
 use mathlib.Core.Path.{ap}
-use borrow.Author.Rules.{rules}
 use Rattle.told.specs.Told.{accepted_told}
 use Rattle.told.proofs.accepted.Goals as goal
 

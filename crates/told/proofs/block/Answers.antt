@@ -1,5 +1,4 @@
 use mathlib.Core.Path.{refl}
-use borrow.Author.Rules.{rules}
 use Rattle.told.specs.Told.{block_told}
 use Rattle.told.proofs.block.Goals as goal
 

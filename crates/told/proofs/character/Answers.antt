@@ -3,7 +3,6 @@ use mathlib.Core.Path.{◌≡◌}
 use lib.IntN.{ℤ}
 use mir.Syntax.{w32}
 use mir.Facts.{to_z-of_z}
-use borrow.Author.Rules.{rules}
 use Rattle.told.specs.declared.CharacterAnswer.{CharacterAnswer}
 use Rattle.told.specs.Told.{character_told}
 use Rattle.decision.specs.declared.Character.{Character}

@@ -1,9 +1,7 @@
 use mathlib.Core.Path.{◌≡◌, ◌∙◌, ap}
-use Prim.Native.Nat.{◌≤◌, ◌-◌}
 use native.Mathlib.Omega.{arith}
 use borrow.Author.Rules.{rules}
-use lib.ListN.{get_or, replicate}
-use Rattle.lists.specs.Lists.{tab, over}
+use lib.ListN.{replicate}
 use Rattle.lists.proofs.Fronts.{over_start, over_set, over_tab_whole}
 use Rattle.decision.specs.Decision.{none}
 use Rattle.told.specs.Told.{character_told, characters_told}

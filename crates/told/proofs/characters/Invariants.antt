@@ -1,12 +1,9 @@
-use mathlib.Core.Path.{◌≡◌, ◌∙◌, ap}
+use mathlib.Core.Path.{◌≡◌}
 use Prim.Native.Nat.{◌≤◌, ◌-◌}
-use native.Mathlib.Omega.{arith}
-use borrow.Author.Rules.{rules}
 use lib.ListN.{get_or, replicate}
 use Rattle.lists.specs.Lists.{tab, over}
-use Rattle.lists.proofs.Fronts.{over_start, over_set, over_tab_whole}
 use Rattle.decision.specs.Decision.{none}
-use Rattle.told.specs.Told.{character_told, characters_told}
+use Rattle.told.specs.Told.{character_told}
 use Rattle.told.proofs.characters.Given as goal
 
 abbrev pub invariant-loop-q : goal.invariant-loop-q

@@ -1,4 +1,3 @@
-use borrow.Author.Rules.{rules}
 use Rattle.told.proofs.decoded.Goals as goal
 
 pub returns-in-Text : goal.returns-in-Text

@@ -1,4 +1,3 @@
-use borrow.Author.Rules.{rules}
 use Rattle.told.proofs.encoded.Goals as goal
 
 pub returns-in-Tones : goal.returns-in-Tones

@@ -1,5 +1,4 @@
 use mathlib.Core.Path.{refl}
-use borrow.Author.Rules.{rules}
 use Rattle.told.proofs.energies.Goals as goal
 
 pub returns-in-Total : goal.returns-in-Total

@@ -1,5 +1,4 @@
 use Rattle.lists.specs.Caps.{capped}
-use borrow.Author.Rules.{rules}
 use Rattle.told.proofs.handed.Goals as goal
 
 pub returns-in-Taken : goal.returns-in-Taken

@@ -1,5 +1,4 @@
 use mathlib.Core.Path.{refl}
-use borrow.Author.Rules.{rules}
 use Rattle.lists.specs.Caps.{capped}
 use Rattle.told.proofs.located.Goals as goal
 

@@ -1,5 +1,4 @@
 use mathlib.Core.Path.{refl}
-use borrow.Author.Rules.{rules}
 use lib.Ieee.{of_bits, odd}
 use Rattle.scaled.specs.Exact.{scaled}
 use Rattle.told.proofs.nowhere.Goals as goal

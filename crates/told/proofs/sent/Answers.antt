@@ -1,6 +1,5 @@
 use mathlib.Core.Path.{refl}
 use Rattle.lists.specs.Caps.{capped}
-use borrow.Author.Rules.{rules}
 use Rattle.told.proofs.sent.Goals as goal
 
 pub returns-in-Block : goal.returns-in-Block
