@@ -34,14 +34,6 @@ codes_from-codes-requires c = ((mode_known (goal.at.codes_from-codes-requires c)
 pub slice_bounds-encode_block-end : goal.slice_bounds-encode_block-end
 slice_bounds-encode_block-end c = omega (arith, (mode_known (goal.at.slice_bounds-encode_block-end c).Start).1)
 
--- no such goal: slice-bounds-encode-block-start-2
--- part_encode_block_start_2 : tie.Need-slice-bounds-encode-block-start-2 invariant_loop decreases_loop
--- part_encode_block_start_2 c = search rules
-
--- no such goal: slice-bounds-encode-block-end-2
--- part_encode_block_end_2 : tie.Need-slice-bounds-encode-block-end-2 invariant_loop decreases_loop
--- part_encode_block_end_2 c = search rules
-
 pub overflow_add-at : goal.overflow_add-at
 overflow_add-at c = omega (arith, room (goal.at.overflow_add-at c).In-loop-k)
 
