@@ -2,7 +2,8 @@
 // sentences, nearly sentences, or none.
 #![tactic(auto)]
 
-use std::alloc::Global;
+ghost use Rattle.std.specs.Prelude.{◌≤◌, IfOk};
+
 use std::io;
 use std::io::Read;
 
@@ -12,7 +13,7 @@ fn main(rt: HostRuntime) -> io::Result<()> {
     every_number(&rt)?;
     leads(&rt)?;
     not_written(&rt)?;
-    read_input(&rt, rt.alloc())
+    read_input(&rt, &mut rt.stdin())
 }
 
 // From 0 to one more than document 02 ever names.
@@ -50,11 +51,26 @@ fn not_written(rt: &impl Print) -> io::Result<()> {
     lines::write_short(rt, 18, 10, 0)
 }
 
-// Reads each line of the input as a sentence.
-fn read_input(rt: &(impl Print + Input), alloc: Global) -> io::Result<()> {
-    let mut bytes = Vec::new(alloc);
-    rt.reader().read_to_end(&mut bytes)?;
-    read_lines(rt, &bytes)
+// Reads each line of the input's first 4,096 bytes as a sentence.
+fn read_input(rt: &impl Print, input: &mut impl Read) -> io::Result<()> {
+    let mut buffer = [0u8; 4096];
+    let count = read_front(input, &mut buffer)?;
+    read_lines(rt, &buffer[..count])
+}
+
+// Fills the buffer as far as the input goes: how many bytes it has then.
+fn read_front(input: &mut impl Read, buffer: &mut [u8; 4096]) -> io::Result<usize>
+    ensures { IfOk result (λ count. count ≤ 4096) }
+{
+    let mut count: usize = 0;
+    while count < 4096 {
+        let more = input.read(&mut buffer[count..])?;
+        if more == 0 {
+            return Ok(count);
+        }
+        count += more;
+    }
+    Ok(count)
 }
 
 fn read_lines(rt: &impl Print, bytes: &[u8]) -> io::Result<()> {
