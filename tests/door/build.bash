@@ -14,9 +14,10 @@ set -eu
 echo "$*" >>"$room/calls"
 cat >/dev/null
 case $1 in
-    run) made=out/list ;;
-    lib) made=out/libolivia.a ;;
+    run) made=$PWD/out/list ;;
+    lib) made=$PWD/out/libolivia.a ;;
 esac
+cd ../..
 mkdir -p "$(dirname "$made")"
 echo '#!/bin/sh' >"$made"
 chmod +x "$made"
