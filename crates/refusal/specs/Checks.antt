@@ -1,5 +1,9 @@
 -- Limits that several entries check: document 01, "Who can cause a refusal".
-use Rattle.std.specs.Prelude.{Bool, true, ◌&&◌, ◌≡◌, ℕ, ◌*◌, leb}
+use Rattle.std.specs.Prelude.{Bool, true, cond, ◌&&◌, ◌≡◌, ℕ, ◌*◌, leb, Result, Ok, Err}
+use Rattle.refusal.specs.declared.Reason.{Reason}
+use Rattle.refusal.specs.declared.Reason.TheVariants
+use Rattle.refusal.specs.declared.Refusal.{Refusal}
+use Rattle.refusal.specs.Refused.{Counted, refused_at}
 
 abbrev pub within : ℕ → ℕ → ℕ → Bool
 within low high n = leb low n && leb n high
@@ -13,6 +17,19 @@ is_lead_at N m = within 1 (64 * N) m
 
 abbrev pub is_lead : ℕ → Bool
 is_lead m = is_lead_at 1 m
+
+-- ---- the same as answers
+
+unfoldable pub checked_mode : ℕ → Counted
+checked_mode b = cond (is_mode b) (Ok b) (Err (refused_at Reason.Mode 0))
+
+unfoldable pub checked_lead_at : ℕ → ℕ → Result Unit Refusal
+checked_lead_at N m = cond (is_lead_at N m) (Ok tt) (Err (refused_at Reason.LeastLead 0))
+
+abbrev pub checked_lead : ℕ → Result Unit Refusal
+checked_lead m = checked_lead_at 1 m
+
+-- ---- what they leave known
 
 -- a mode and a set lead within their limits
 pub record IsSet (b m : ℕ) : Type 0 where

@@ -1,11 +1,25 @@
 // Limits that several entries check: document 01, "Who can cause a refusal".
 ghost use Rattle.std.specs.Prelude.{◌≡◌, ◌%◌, ◌^◌};
-ghost use Rattle.refusal.specs.Checks.{is_mode, is_lead_at, is_lead};
+ghost use Rattle.refusal.specs.Checks.{is_mode, checked_mode, is_lead_at, checked_lead_at, is_lead, checked_lead};
+
+use super::{Reason, Refusal};
 
 pub fn is_mode(mode: u32) -> bool
     ensures { result ≡ is_mode mode }
 {
     1 <= mode && mode <= 8
+}
+
+// The mode as a count of characters, where it is one.
+#[tactic(auto, unfolding(crate::specs::Checks::checked_mode))]
+pub fn check_mode(mode: u32) -> Result<usize, Refusal>
+    ensures { result ≡ checked_mode mode }
+{
+    if is_mode(mode) {
+        Ok(mode as usize)
+    } else {
+        Err(Refusal::at(Reason::Mode, 0))
+    }
 }
 
 pub fn is_lead(least_lead: u32) -> bool
@@ -19,6 +33,25 @@ pub fn is_lead_at(greatest: u8, least_lead: u32) -> bool
     ensures { result ≡ is_lead_at greatest least_lead }
 {
     1 <= least_lead && least_lead <= 64 * (greatest as u32)
+}
+
+// Whether the set lead is one in plain hearing.
+pub fn check_lead(least_lead: u32) -> Result<(), Refusal>
+    ensures { result ≡ checked_lead least_lead }
+{
+    check_lead_at(1, least_lead)
+}
+
+// Whether it is one where no weight is above greatest.
+#[tactic(auto, unfolding(crate::specs::Checks::checked_lead_at))]
+pub fn check_lead_at(greatest: u8, least_lead: u32) -> Result<(), Refusal>
+    ensures { result ≡ checked_lead_at greatest least_lead }
+{
+    if is_lead_at(greatest, least_lead) {
+        Ok(())
+    } else {
+        Err(Refusal::at(Reason::LeastLead, 0))
+    }
 }
 
 // The count of a mode's tones, 2^mode. A number of 16 or more goes by its lowest four bits. To the right, since of a comparison with what is
