@@ -1,7 +1,6 @@
 -- What an answer of a check tells of the setting.
 use Rattle.std.proofs.Common.{◌≡◌, refl, Bool, true, false, cond, ℕ, Ok, Err}
 use Rattle.refusal.specs.declared.Reason.{Reason}
-use Rattle.refusal.specs.declared.Reason.TheVariants
 use Rattle.refusal.specs.declared.Refusal.{Refusal}
 use Rattle.refusal.specs.Refused.{refused_at}
 use Rattle.refusal.specs.Checks.{is_mode, checked_mode, is_lead_at, checked_lead_at}
@@ -26,7 +25,7 @@ pub lead_passed : (N m : ℕ) (u : Unit {0}) → checked_lead_at N m ≡ Ok u �
 unfolding checked_lead_at
 lead_passed N m u e = by (is_lead_at N m) refl e
   where
-    by : (t : Bool) → is_lead_at N m ≡ t → cond t (Ok tt) (Err (refused_at Reason.LeastLead 0)) ≡ Ok u → is_lead_at N m ≡ true
+    by : (t : Bool) → is_lead_at N m ≡ t → cond t (Ok (tt {0})) (Err (refused_at Reason.LeastLead 0)) ≡ Ok u → is_lead_at N m ≡ true
     by true h f = h
     by false h f = absurd cc
 
@@ -34,7 +33,7 @@ pub lead_refused : (N m : ℕ) (r : Refusal) → checked_lead_at N m ≡ Err r �
 unfolding checked_lead_at
 lead_refused N m r e = by (is_lead_at N m) refl e
   where
-    by : (t : Bool) → is_lead_at N m ≡ t → cond t (Ok tt) (Err (refused_at Reason.LeastLead 0)) ≡ Err r
+    by : (t : Bool) → is_lead_at N m ≡ t → cond t (Ok (tt {0})) (Err (refused_at Reason.LeastLead 0)) ≡ Err r
         → (r ≡ refused_at Reason.LeastLead 0) × (is_lead_at N m ≡ false)
     by true h f = absurd cc
     by false h f = (cc, h)

@@ -2,7 +2,6 @@
 use Rattle.std.proofs.Common.{◌≡◌, refl, ◌+◌}
 use denote.Enum.Declared.{tag_of}
 use Rattle.refusal.specs.declared.Reason.{Reason}
-use Rattle.refusal.specs.declared.Reason.TheVariants
 use Rattle.refusal.specs.contracts.Reason.{the_type}
 use Rattle.refusal.specs.Refused.{number_of}
 

@@ -1,7 +1,6 @@
 -- Limits that several entries check: document 01, "Who can cause a refusal".
 use Rattle.std.specs.Prelude.{Bool, true, cond, ◌&&◌, ◌≡◌, ℕ, ◌*◌, leb, Result, Ok, Err}
 use Rattle.refusal.specs.declared.Reason.{Reason}
-use Rattle.refusal.specs.declared.Reason.TheVariants
 use Rattle.refusal.specs.declared.Refusal.{Refusal}
 use Rattle.refusal.specs.Refused.{Counted, refused_at}
 

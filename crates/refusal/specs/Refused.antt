@@ -1,7 +1,6 @@
 -- Document 01, "Who can cause a refusal": a refusal returns its number and a place.
 use Rattle.std.specs.Prelude.{ℕ, Result}
 use Rattle.refusal.specs.declared.Reason.{Reason}
-use Rattle.refusal.specs.declared.Reason.TheVariants
 use Rattle.refusal.specs.declared.Refusal.{Refusal}
 
 -- the number of document 01, or of document 02
