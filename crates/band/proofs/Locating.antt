@@ -17,10 +17,11 @@ use Rattle.band.specs.Limits.{fault}
 use Rattle.band.specs.Frequencies.{edge512, band_of}
 use Rattle.band.specs.Locating.{tone_edge512, owner_of, in_band, heard_as, located_of, refusal_of, locate_fault}
 use Rattle.band.specs.Internal.{tone_edge_in, holds_in, Between, OwnerIn}
-use Rattle.band.specs.declared.Located.TheVariants as located
 use Rattle.band.proofs.Settings.{passed, within}
 use Rattle.band.proofs.Formulas.{tone_edge_exact}
 use Rattle.band.proofs.Owners.{past_last_edge, owns_by, owner_is, ends}
+use Rattle.std.proofs.Common.{Err}
+use Rattle.refusal.specs.declared.Reason.{Reason}
 
 -- ---- the tests
 
@@ -54,16 +55,16 @@ module _ (b w c : ℕ) (x : Float) (e : fault b w c 0 ≡ 0) where
 -- ---- the answers
 
 module _ (b w c : ℕ) (x : Float) where
-  pub located_refused : fault b w c 0 ≢ 0 → located.Refused (refused_at (fault b w c 0) 0) ≡ located_of b w c x
+  pub located_refused : fault b w c 0 ≢ 0 → Err (refused_at (fault b w c 0) 0) ≡ located_of b w c x
   unfolding located_of
   located_refused n = rw (ne_eqb (fault b w c 0) 0 n)
 
   module _ (e : fault b w c 0 ≡ 0) where
-    pub located_not_finite : finite x ≡ false → located.NotFinite ≡ located_of b w c x
+    pub located_not_finite : finite x ≡ false → (Err (refused_at Reason.NotFinite 0)) ≡ located_of b w c x
     unfolding located_of
     located_not_finite f = rw (eq-eqb (fault b w c 0) 0 e, f)
 
-    pub located_outside : finite x ≡ true → in_band w c x ≡ false → located.OutsideBand ≡ located_of b w c x
+    pub located_outside : finite x ≡ true → in_band w c x ≡ false → (Err (refused_at Reason.OutsideBand 0)) ≡ located_of b w c x
     unfolding located_of
     located_outside f h = rw (eq-eqb (fault b w c 0) 0 e, f, h)
 
@@ -76,8 +77,8 @@ module _ (b w c : ℕ) (x : Float) where
   numbered = by (eqb (fault b w c 0) 0) (finite x) (in_band w c x)
     where
       by : (p q r : Bool)
-          → refusal_of (cond (not p) (located.Refused (refused_at (fault b w c 0) 0))
-          (cond (not q) located.NotFinite (cond (not r) located.OutsideBand (heard_as b w c x (owner_of b w c x)))))
+          → refusal_of (cond (not p) (Err (refused_at (fault b w c 0) 0))
+          (cond (not q) (Err (refused_at Reason.NotFinite 0)) (cond (not r) (Err (refused_at Reason.OutsideBand 0)) (heard_as b w c x (owner_of b w c x)))))
           ≡ refused_at (cond (not p) (fault b w c 0) (cond (not q) 15 (cond (not r) 16 0))) 0
       by false q r = refl
       by true false r = refl

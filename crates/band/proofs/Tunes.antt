@@ -20,12 +20,13 @@ use Rattle.band.specs.Limits.{fault}
 use Rattle.band.specs.Frequencies.{spacing512, half512, tone512, hertz_of}
 use Rattle.band.specs.Locating.{tone_edge512, owns, owner_of, in_band, heard_as, located_of}
 use Rattle.band.specs.Laws.{is_heard, Tuning}
-use Rattle.band.specs.declared.Located.TheVariants as located
 use Rattle.band.proofs.Settings.{within, tone_0, tone_range}
 use Rattle.band.proofs.Formulas.{halved, half_small, mode_tone_small}
 use Rattle.band.proofs.Answers.{hertz_of_frequency}
 use Rattle.band.proofs.Owners.{owns_by, owned, one_owner, owner_is, owner_owns, owned_in_band}
 use Rattle.band.proofs.Locating.{located_heard}
+use Rattle.std.proofs.Common.{Err}
+use Rattle.refusal.specs.declared.Reason.{Reason}
 
 -- ---- heard exactly where the settings are right, and x is finite and in the band
 
@@ -34,8 +35,8 @@ unfolding located_of heard_as
 covered b w c x = by (eqb (fault b w c 0) 0) (finite x) (in_band w c x)
   where
     by : (p q r : Bool)
-        → is_heard (cond (not p) (located.Refused (refused_at (fault b w c 0) 0))
-        (cond (not q) located.NotFinite (cond (not r) located.OutsideBand (heard_as b w c x (owner_of b w c x))))) ≡ p && q && r
+        → is_heard (cond (not p) (Err (refused_at (fault b w c 0) 0))
+        (cond (not q) (Err (refused_at Reason.NotFinite 0)) (cond (not r) (Err (refused_at Reason.OutsideBand 0)) (heard_as b w c x (owner_of b w c x))))) ≡ p && q && r
     by false q r = refl
     by true false r = refl
     by true true false = refl
@@ -47,13 +48,13 @@ record Heard (b w c n : ℕ) (x off : Float) : Type 0 where
   pub owner : owns b w c x n ≡ true
   pub distance : off ≡ sub binary64 x (hertz_of b w c n)
 
-heard : (b w c n : ℕ) (x off : Float) → located_of b w c x ≡ located.Heard n off → Heard b w c n x off
+heard : (b w c n : ℕ) (x off : Float) → located_of b w c x ≡ HEARD n off → Heard b w c n x off
 unfolding located_of heard_as
 heard b w c n x off e = by (eqb (fault b w c 0) 0) refl (finite x) (in_band w c x) refl e
   where
     by : (p : Bool) → eqb (fault b w c 0) 0 ≡ p → (q r : Bool) → in_band w c x ≡ r
-        → cond (not p) (located.Refused (refused_at (fault b w c 0) 0))
-        (cond (not q) located.NotFinite (cond (not r) located.OutsideBand (heard_as b w c x (owner_of b w c x)))) ≡ located.Heard n off
+        → cond (not p) (Err (refused_at (fault b w c 0) 0))
+        (cond (not q) (Err (refused_at Reason.NotFinite 0)) (cond (not r) (Err (refused_at Reason.OutsideBand 0)) (heard_as b w c x (owner_of b w c x)))) ≡ HEARD n off
         → Heard b w c n x off
     by true h true true l e =
         let right = eqb-true (fault b w c 0) 0 h in
@@ -102,16 +103,16 @@ module _ (b w c n : ℕ) (e : fault b w c 0 ≡ 0) where
       (scaled_least (tone_edge512 b w c n) k ∙ le-leb (tone_edge512 b w c n) k (omega (arith, tone_after)))
       (scaled_least (tone_edge512 b w c (suc n)) k ∙ lt-leb (tone_edge512 b w c (suc n)) k (omega (arith, tone_before)))
 
-own_heard : (b w c n : ℕ) → fault b w c n ≡ 0 → located_of b w c (hertz_of b w c n) ≡ located.Heard n (fin false 0 (pos 0))
+own_heard : (b w c n : ℕ) → fault b w c n ≡ 0 → located_of b w c (hertz_of b w c n) ≡ HEARD n (fin false 0 (pos 0))
 unfolding heard_as hertz_of scaled odd
 own_heard b w c n e =
     let right = tone_0 b w c n e in
     let k = tone512 b w c n in
     let none : k - k ≡ 0 = omega arith in
     owned_heard b w c n (hertz_of b w c n) e (owns_own b w c n right)
-    ∙ ap (located.Heard n) (difference_exact k k (omega arith) (mode_tone_small b w c right n (tone_range b w c n e)) ∙ ap scaled none)
+    ∙ ap (HEARD n) (difference_exact k k (omega arith) (mode_tone_small b w c right n (tone_range b w c n e)) ∙ ap scaled none)
 
-module _ (b w c n : ℕ) (x off : Float) (t : T (fits binary64 x)) (e : located_of b w c x ≡ located.Heard n off) where
+module _ (b w c n : ℕ) (x off : Float) (t : T (fits binary64 x)) (e : located_of b w c x ≡ HEARD n off) where
   heard_off : Heard b w c n x off
   heard_off = heard b w c n x off e
 
@@ -143,7 +144,7 @@ tuning_law = record {
   owned = owned_heard;
   own = λ b w c n x f.
       let of = hertz_of_frequency b w c n x f in
-      subst (λ (x : Float). located_of b w c x ≡ located.Heard n (fin false 0 (pos 0))) of.1 (own_heard b w c n of.0);
+      subst (λ (x : Float). located_of b w c x ≡ HEARD n (fin false 0 (pos 0))) of.1 (own_heard b w c n of.0);
   from = from_half;
   below = below_half;
 }

@@ -1,17 +1,16 @@
 -- Document 02, order 4: the tone that a measured frequency belongs to, and how far it is off that tone. Edges are whole numbers of 1/512 Hz,
 -- and the measurement is compared with them by its own value: nothing is rounded but the distance.
-use Rattle.std.specs.Prelude.{Bool, cond, not, ◌&&◌, ℕ, suc, ◌+◌, ◌*◌, ◌^◌, eqb, Float}
+use Rattle.std.specs.Prelude.{Bool, cond, not, ◌&&◌, ℕ, suc, ◌+◌, ◌*◌, ◌^◌, eqb, Float, Err}
 use Rattle.std.specs.Float.{binary64}
 use Rattle.std.specs.Float.Ieee.{sub}
 use Rattle.std.specs.Float.Ieee.Scale.{finite}
 use Rattle.lists.specs.Places.{first}
-use Rattle.refusal.specs.Refused.{refused_at}
+use Rattle.refusal.specs.Refused.{Answered, refused_at}
 use Rattle.refusal.specs.declared.Refusal.{Refusal}
 use Rattle.scaled_order.specs.Order.{at_least}
 use Rattle.band.specs.Limits.{fault}
 use Rattle.band.specs.Frequencies.{edge512, spacing512, hertz_of}
-use Rattle.band.specs.declared.Located.{Located}
-use Rattle.band.specs.declared.Located.TheVariants as located
+use Rattle.refusal.specs.declared.Reason.{Reason}
 
 -- the lower edge plus n spacings
 unfoldable pub tone_edge512 : ℕ → ℕ → ℕ → ℕ → ℕ
@@ -34,25 +33,25 @@ unfoldable pub in_band : ℕ → ℕ → Float → Bool
 in_band w c x = at_least (edge512 w c) x && not (at_least (upper512 w c) x)
 
 -- x as one of tone n: with the measurement minus that tone's frequency, one f64 subtraction
-unfoldable pub heard_as : ℕ → ℕ → ℕ → Float → ℕ → Located
-heard_as b w c x n = located.Heard n (sub binary64 x (hertz_of b w c n))
+unfoldable pub heard_as : ℕ → ℕ → ℕ → Float → ℕ → Answered Heard
+heard_as b w c x n = HEARD n (sub binary64 x (hertz_of b w c n))
 
 -- checks 1, 3 and 4, where tone 0 is one of every mode; then 15 and 16
-unfoldable pub located_of : ℕ → ℕ → ℕ → Float → Located
+unfoldable pub located_of : ℕ → ℕ → ℕ → Float → Answered Heard
 located_of b w c x =
-    cond (not (eqb (fault b w c 0) 0)) (located.Refused (refused_at (fault b w c 0) 0))
-    (cond (not (finite x)) located.NotFinite
-    (cond (not (in_band w c x)) located.OutsideBand
+    cond (not (eqb (fault b w c 0) 0)) (Err (refused_at (fault b w c 0) 0))
+    (cond (not (finite x)) (Err (refused_at Reason.NotFinite 0))
+    (cond (not (in_band w c x)) (Err (refused_at Reason.OutsideBand 0))
     (heard_as b w c x (owner_of b w c x))))
 
 -- ---- the paper's numbers
 
 -- the number and the place of each case; 0 for a tone
-abbrev pub refusal_of : Located → Refusal
-refusal_of (located.Heard n off) = refused_at 0 0
-refusal_of located.NotFinite = refused_at 15 0
-refusal_of located.OutsideBand = refused_at 16 0
-refusal_of (located.Refused r) = r
+abbrev pub refusal_of : Answered Heard → Refusal
+refusal_of (HEARD n off) = refused_at 0 0
+refusal_of (Err (refused_at Reason.NotFinite 0)) = refused_at Reason.NotFinite 0
+refusal_of (Err (refused_at Reason.OutsideBand 0)) = refused_at Reason.OutsideBand 0
+refusal_of (Err r) = r
 
 -- the number of the first check that fails, or 0
 unfoldable pub locate_fault : ℕ → ℕ → ℕ → Float → ℕ

@@ -11,7 +11,7 @@ ghost use Rattle.band.specs.Frequencies.{band_of, hertz_in, plan, frequency_of};
 ghost use Rattle.band.specs.Locating.{located_of, refusal_of, locate_fault};
 ghost use Rattle.band.specs.Internal.{tone_edge_in, holds_in, Between, OwnerIn};
 
-use refusal::{Refusal, checks};
+use refusal::{Reason, Refusal, checks};
 
 pub mod laws;
 
@@ -50,15 +50,15 @@ const NONE: u8 = 0;
 
 impl Band {
     // The band of a mode, a width and a centre, both in Hz.
-    pub fn new(mode: u32, width: u32, centre: u32) -> Planned
+    pub fn new(mode: u32, width: u32, centre: u32) -> Result<Band, Refusal>
         ensures { result ≡ plan mode width centre }
     {
         // Tone 0 is one of every mode.
         let number = fault(mode, width, centre, 0);
         if number != NONE {
-            return Planned::Refused(Refusal::at(number, 0));
+            return Err(Refusal::at(number, 0));
         }
-        Planned::Band(band_of(mode, width, centre))
+        Ok(band_of(mode, width, centre))
     }
 
     // Where a tone lies: half a spacing above the lower edge of its stretch. In a band of `Band::new` it is exact (law `Fractions`).
@@ -104,26 +104,26 @@ impl Band {
 }
 
 // The frequency of a tone of a mode, for a width and a centre, both in Hz.
-pub fn frequency(mode: u32, width: u32, centre: u32, tone: u16) -> Tuned
+pub fn frequency(mode: u32, width: u32, centre: u32, tone: u16) -> Result<f64, Refusal>
     ensures { result ≡ frequency_of mode width centre tone }
 {
     let number = fault(mode, width, centre, tone);
     if number != NONE {
-        return Tuned::Refused(Refusal::at(number, 0));
+        return Err(Refusal::at(number, 0));
     }
     let band = band_of(mode, width, centre);
-    Tuned::Hertz(band.hertz(tone))
+    Ok(band.hertz(tone))
 }
 
 // The tone that a measured frequency in Hz belongs to, and the measurement less that tone's frequency.
-pub fn locate(mode: u32, width: u32, centre: u32, hertz: f64) -> Located
+pub fn locate(mode: u32, width: u32, centre: u32, hertz: f64) -> Result<Heard, Refusal>
     ensures answer { result ≡ located_of mode width centre hertz }
     ensures refusal { refusal_of result ≡ refused_at (locate_fault mode width centre hertz) 0 }
 {
     // Tone 0 is one of every mode.
     let number = fault(mode, width, centre, 0);
     if number != NONE {
-        return Located::Refused(Refusal::at(number, 0));
+        return Err(Refusal::at(number, 0));
     }
     if !is_finite(hertz) {
         return Located::NotFinite;
@@ -149,16 +149,16 @@ fn fault(mode: u32, width: u32, centre: u32, tone: u16) -> u8
     ensures { result ≡ fault mode width centre tone }
 {
     if !checks::is_mode(mode) {
-        return refusal::MODE;
+        return Reason::Mode;
     }
     if !is_width(width) {
-        return refusal::WIDTH;
+        return Reason::Width;
     }
     if !is_centre(width, centre) {
-        return refusal::CENTRE;
+        return Reason::Centre;
     }
     if !is_tone(mode, tone) {
-        return refusal::TONE;
+        return Reason::Tone;
     }
     NONE
 }

@@ -1,6 +1,6 @@
 // A call of an entry and its line: what it is given, and the answer. A frequency is told as its whole number of 1/512 Hz and
 // as the bit pattern of the f64, which tells it apart from every other; a measurement and its distance as the pattern alone.
-use band::{Band, Located, Planned, Tuned};
+use band::Band;
 use refusal::Refusal;
 use std::io;
 
@@ -46,11 +46,11 @@ pub fn band(rt: &impl Print, mode: u32, width: u32, centre: u32) -> io::Result<(
     settings(rt, mode, width, centre)?;
     let planned = Band::new(mode, width, centre);
     match planned {
-        Planned::Band(band) => {
+        Ok(band) => {
             hertz(rt, ": edge ", band.edge)?;
             hertz(rt, " spacing ", band.spacing)?;
         }
-        Planned::Refused(refusal) => refused(rt, refusal)?,
+        Err(refusal) => refused(rt, refusal)?,
     }
     println!(rt; "")
 }
@@ -60,8 +60,8 @@ pub fn frequency(rt: &impl Print, mode: u32, width: u32, centre: u32, tone: u16)
     print!(rt; " tone {tone}")?;
     let tuned = band::frequency(mode, width, centre, tone);
     match tuned {
-        Tuned::Hertz(x) => hertz(rt, ": ", x)?,
-        Tuned::Refused(refusal) => refused(rt, refusal)?,
+        Ok(x) => hertz(rt, ": ", x)?,
+        Err(refusal) => refused(rt, refusal)?,
     }
     println!(rt; "")
 }
@@ -78,7 +78,7 @@ pub fn locate(rt: &impl Print, mode: u32, width: u32, centre: u32, hertz: f64) -
         }
         Located::NotFinite => print!(rt; ": not finite")?,
         Located::OutsideBand => print!(rt; ": outside the band")?,
-        Located::Refused(refusal) => refused(rt, refusal)?,
+        Err(refusal) => refused(rt, refusal)?,
     }
     println!(rt; "")
 }

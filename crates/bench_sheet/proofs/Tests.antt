@@ -12,7 +12,7 @@ use lib.Ieee.Bits.{is_true}
 use lib.Ieee.Exact.{HasValue}
 use lib.Ieee.Fits.{and_l, and_r}
 use Rattle.lists.specs.Lists.{num}
-use Rattle.refusal.specs.Refused.{unclear_at}
+use Rattle.refusal.specs.Refused.{Answered, unclear_at}
 use Rattle.refusal.specs.Checks.{is_lead, IsSet}
 use Rattle.decision.specs.declared.Character.{Character}
 use Rattle.chain.specs.Tables.{symbol_of}
@@ -21,19 +21,16 @@ use Rattle.weight_range.proofs.Ranges.{weights_in_range, has_throughout}
 use Rattle.block_encoder.specs.Encoding.{encoded_into}
 use Rattle.block_decoder.specs.Decoding.{plain, codes_of, lead_in, decode_block}
 use Rattle.block_decoder.specs.declared.BlockDecoded.{BlockDecoded}
-use Rattle.block_decoder.specs.declared.Decoded.{Decoded}
-use Rattle.block_decoder.specs.declared.Decoded.TheVariants as decoded
 use Rattle.block_decoder.proofs.DecodeCases.{judged, judges}
 use Rattle.block_decoder.proofs.Answers.{passed}
 use Rattle.demands.specs.Demand.{replaced_in, missing_in}
 use Rattle.lead_laws.specs.Laws.{BecomesUnclear}
 use Rattle.lead_laws.proofs.Raises.{raised_lead}
 use Rattle.band.specs.Frequencies.{frequency_of}
-use Rattle.band.specs.declared.Tuned.{Tuned}
-use Rattle.band.specs.declared.Tuned.TheVariants as tuned
 use Rattle.bench_sheet.specs.Heard.{case_1, Accepts}
 use Rattle.bench_sheet.specs.Sheet.{Row, b=◌codes◌first_tones◌, tone◌is_symbol◌, ◌r=◌u=◌, ◌m=◌accepts_code◌lead◌, ◌m=◌refuses_10_place◌lead◌, ◌at_every_m_refuses_10_place◌lead◌, ◌has_lead◌, ◌just_beyond_demand_3_at_m=◌, b=◌B◌centre◌tone◌at◌thousandths, Holds, Each}
 use Rattle.bench_sheet.proofs.Quick.{quick_of, characters_quick}
+use Rattle.std.proofs.Common.{Ok, Err}
 
 -- ---- lists of numbers
 
@@ -52,13 +49,13 @@ same_lists (x ∷ xs) (y ∷ ys) t =
 
 -- ---- answers
 
-abbrev is_text_lem : Decoded → Bool
-is_text_lem (decoded.Text n) = eqb n 1
-is_text_lem (decoded.Refused r) = false
+abbrev is_text_lem : Answered ℕ → Bool
+is_text_lem (Ok n) = eqb n 1
+is_text_lem (Err r) = false
 
-text : (d : Decoded) → T (is_text_lem d) → d ≡ decoded.Text 1
-text (decoded.Text n) t = ap decoded.Text (eqb→eq n 1 t)
-text (decoded.Refused r) t = absurd t
+text : (d : Answered ℕ) → T (is_text_lem d) → d ≡ Ok 1
+text (Ok n) t = ap Ok (eqb→eq n 1 t)
+text (Err r) t = absurd t
 
 abbrev is_accepted : BlockDecoded → ℕ → ℕ → Bool
 is_accepted d v l = is_text_lem d.answer && (eqb (num (codes_of d.characters) 0) v && eqb (lead_in d.characters 0) l)
@@ -75,13 +72,13 @@ accepted d v l t =
       its_lead = eqb→eq (lead_in d.characters 0) l (and_r second third rest);
     }
 
-abbrev is_unclear : Decoded → ℕ → ℕ → Bool
-is_unclear (decoded.Text n) q l = false
-is_unclear (decoded.Refused r) q l = eqb r.number 10 && (eqb r.place q && eqb r.lead l)
+abbrev is_unclear : Answered ℕ → ℕ → ℕ → Bool
+is_unclear (Ok n) q l = false
+is_unclear (Err r) q l = eqb r.number 10 && (eqb r.place q && eqb r.lead l)
 
-unclear : (d : Decoded) (q l : ℕ) → T (is_unclear d q l) → d ≡ decoded.Refused (unclear_at q l)
-unclear (decoded.Text n) q l t = absurd t
-unclear (decoded.Refused r) q l t =
+unclear : (d : Answered ℕ) (q l : ℕ) → T (is_unclear d q l) → d ≡ Err (unclear_at q l)
+unclear (Ok n) q l t = absurd t
+unclear (Err r) q l t =
     let first = eqb r.number 10 in
     let second = eqb r.place q in
     let third = eqb r.lead l in
@@ -89,7 +86,7 @@ unclear (decoded.Refused r) q l t =
     let its-number : r.number ≡ 10 = eqb→eq r.number 10 (and_l first (second && third) t) in
     let its-place : r.place ≡ q = eqb→eq r.place q (and_l second third rest) in
     let its_lead : r.lead ≡ l = eqb→eq r.lead l (and_r second third rest) in
-    λ i. decoded.Refused (record { number = its-number i; place = its-place i; lead = its_lead i })
+    λ i. Err (record { number = its-number i; place = its-place i; lead = its_lead i })
 
 abbrev is_value : Float → ℕ → ℕ → Bool
 is_value nan k c = false
@@ -103,13 +100,13 @@ value (inf s) k c t = absurd t
 value (fin true m e) k c t = absurd t
 value (fin false m e) k c t = (refl, eqb→eq (m * up e * c) (k * down e) t)
 
-abbrev is_hertz : Tuned → ℕ → ℕ → Bool
-is_hertz (tuned.Hertz x) k c = is_value x k c
-is_hertz (tuned.Refused r) k c = false
+abbrev is_hertz : Answered Float → ℕ → ℕ → Bool
+is_hertz (Ok x) k c = is_value x k c
+is_hertz (Err r) k c = false
 
-hertz : (f : Tuned) (k c : ℕ) → T (is_hertz f k c) → (x : Float) × (f ≡ tuned.Hertz x) × HasValue x false k c
-hertz (tuned.Hertz x) k c t = (x, refl, value x k c t)
-hertz (tuned.Refused r) k c t = absurd t
+hertz : (f : Answered Float) (k c : ℕ) → T (is_hertz f k c) → (x : Float) × (f ≡ Ok x) × HasValue x false k c
+hertz (Ok x) k c t = (x, refl, value x k c t)
+hertz (Err r) k c t = absurd t
 
 -- ---- blocks at b = 1
 
@@ -135,19 +132,19 @@ decoded_quick m heard t =
     ∙ ap (judged 1 m) (characters_quick 1 heard plain)
 
 -- what is refused as unclear at m = 1 is so at every m, with the same lead
-at_every_m : (heard : List ℕ) (q l : ℕ) → q ≡ 0 → (decode_block 1 1 heard 1).answer ≡ decoded.Refused (unclear_at q l)
+at_every_m : (heard : List ℕ) (q l : ℕ) → q ≡ 0 → (decode_block 1 1 heard 1).answer ≡ Err (unclear_at q l)
     → lead_in (decode_block 1 1 heard 1).characters q ≡ l
-    → (m : ℕ) → 1 ≤ m → m ≤ 64 → (decode_block 1 m heard 1).answer ≡ decoded.Refused (unclear_at q l)
+    → (m : ℕ) → 1 ≤ m → m ≤ 64 → (decode_block 1 m heard 1).answer ≡ Err (unclear_at q l)
 at_every_m heard q l first answer its_lead m low high =
     ⊎_elim (λ s. ap (λ (d : BlockDecoded). d.answer) s.answer ∙ answer) becomes
     (raised_lead.raised 1 1 1 m heard plain (0 ∷ []) (omega arith) low high).either
   where
-    becomes : BecomesUnclear 1 1 1 m heard plain (0 ∷ []) → (decode_block 1 m heard 1).answer ≡ decoded.Refused (unclear_at q l)
+    becomes : BecomesUnclear 1 1 1 m heard plain (0 ∷ []) → (decode_block 1 m heard 1).answer ≡ Err (unclear_at q l)
     becomes u =
         let place : u.unclear.place ≡ q = omega (arith, u.unclear.inside) in
         u.unclear.refused
-        ∙ ap (λ (k : ℕ). decoded.Refused (unclear_at k (lead_in (decode_block 1 m heard 1).characters k))) place
-        ∙ ap (λ (n : ℕ). decoded.Refused (unclear_at q n)) (ap (λ (x : List Character). lead_in x q) u.records ∙ its_lead)
+        ∙ ap (λ (k : ℕ). Err (unclear_at k (lead_in (decode_block 1 m heard 1).characters k))) place
+        ∙ ap (λ (n : ℕ). Err (unclear_at q n)) (ap (λ (x : List Character). lead_in x q) u.records ∙ its_lead)
 
 -- ---- rows
 

@@ -1,11 +1,10 @@
 -- The blocks that the bench sheet hears, all at b = 1: case 1, whole and with even tones turned or missing. And what it is to accept one.
-use Rattle.std.specs.Prelude.{◌≡◌, cond, not, ◌&&◌, List, [], ◌∷◌, ℕ, ◌-◌, leb, replicate}
+use Rattle.std.specs.Prelude.{◌≡◌, cond, not, ◌&&◌, List, [], ◌∷◌, ℕ, ◌-◌, leb, replicate, Ok}
 use Rattle.lists.specs.Lists.{tab, num}
 use Rattle.walsh.specs.Words.{odd}
 use Rattle.chain.specs.Chain.{tones_of, missing_mark}
 use Rattle.block_decoder.specs.Decoding.{codes_of, lead_in}
 use Rattle.block_decoder.specs.declared.BlockDecoded.{BlockDecoded}
-use Rattle.block_decoder.specs.declared.Decoded.TheVariants.{Text}
 
 -- code 0, as encoded
 unfoldable pub case_1 : List ℕ
@@ -27,6 +26,6 @@ all_missing = replicate 64 missing_mark
 
 -- the block is accepted, and its character has that code and lead
 pub record Accepts (d : BlockDecoded) (code lead : ℕ) : Type 0 where
-  pub answer : d.answer ≡ Text 1
+  pub answer : d.answer ≡ Ok 1
   pub its_code : num (codes_of d.characters) 0 ≡ code
   pub its_lead : lead_in d.characters 0 ≡ lead

@@ -1,14 +1,12 @@
 -- Document 01's bench sheet: what a row says of the definitions that the entries equal, and the rows of its starred cases.
-use Rattle.std.specs.Prelude.{◌≡◌, false, List, [], ◌∷◌, ℕ, ◌+◌, ◌*◌, ◌≤◌, Float, length, take, replicate}
+use Rattle.std.specs.Prelude.{◌≡◌, false, List, [], ◌∷◌, ℕ, ◌+◌, ◌*◌, ◌≤◌, Float, length, take, replicate, Ok, Err}
 use Rattle.std.specs.Float.Ieee.Exact.{HasValue}
 use Rattle.refusal.specs.Refused.{unclear_at}
 use Rattle.chain.specs.Tables.{symbol_of}
 use Rattle.block_encoder.specs.Encoding.{encoded_into}
 use Rattle.block_decoder.specs.Decoding.{lead_in, characters_of, decode_block}
-use Rattle.block_decoder.specs.declared.Decoded.TheVariants.{Refused}
 use Rattle.demands.specs.Demand.{replaced_in, missing_in}
 use Rattle.band.specs.Frequencies.{frequency_of}
-use Rattle.band.specs.declared.Tuned.TheVariants.{Hertz}
 use Rattle.bench_sheet.specs.Heard.{case_1, turned_to, missing_to, all_missing, Accepts}
 
 -- ---- rows
@@ -32,11 +30,11 @@ Holds (b= b codes vs first_tones ts) = take (length ts) (encoded_into b vs (repl
 Holds (tone g is_symbol s) = symbol_of g ≡ s
 Holds (heard r= r u= u) = (replaced_in case_1 heard ≡ r) × (missing_in heard ≡ u)
 Holds (heard m= m accepts_code v lead l) = Accepts (decode_block 1 m heard 1) v l
-Holds (heard m= m refuses_10_place q lead l) = (decode_block 1 m heard 1).answer ≡ Refused (unclear_at q l)
-Holds (heard at_every_m_refuses_10_place q lead l) = (m : ℕ) → 1 ≤ m → m ≤ 64 → (decode_block 1 m heard 1).answer ≡ Refused (unclear_at q l)
+Holds (heard m= m refuses_10_place q lead l) = (decode_block 1 m heard 1).answer ≡ Err (unclear_at q l)
+Holds (heard at_every_m_refuses_10_place q lead l) = (m : ℕ) → 1 ≤ m → m ≤ 64 → (decode_block 1 m heard 1).answer ≡ Err (unclear_at q l)
 Holds (heard has_lead l) = lead_in (characters_of 1 heard) 0 ≡ l
 Holds (heard just_beyond_demand_3_at_m= m) = 2 * missing_in heard + 4 * replaced_in case_1 heard ≡ 64 + m
-Holds (b= b B w centre c tone n at k thousandths) = (x : Float) × (frequency_of b w c n ≡ Hertz x) × HasValue x false k 1000
+Holds (b= b B w centre c tone n at k thousandths) = (x : Float) × (frequency_of b w c n ≡ Ok x) × HasValue x false k 1000
 
 abbrev pub Each : List Row → Type 0
 Each [] = Unit {0}

@@ -17,7 +17,7 @@ use Rattle.decision.specs.Decision.{none}
 use Rattle.decision.specs.declared.Character.{Character}
 use Rattle.block_decoder.specs.Decoding.{weighted_at, weighted_of, codes_of, lead_in, first_unclear, unless_unclear, padded}
 use Rattle.block_decoder.specs.Internal.{code_in, first_unclear_in, judgement_in}
-use Rattle.block_decoder.specs.declared.Decoded.TheVariants.{Text, Refused}
+use Rattle.std.proofs.Common.{Ok, Err}
 
 module _ (b : ℕ) (tones weights : List ℕ) where
   pub characters_length : length (weighted_of b tones weights) ≡ b
@@ -56,7 +56,7 @@ module _ (b : ℕ) (tones weights : List ℕ) where
         rw characters_length
         (first_ext _ _ b (λ q h. ap (λ (lead : ℕ). ltb lead m) (same_lead q h)))
 
-    pub judgement_padded : judgement_in b m (padded (weighted_of b tones weights)) ≡ unless_unclear m (weighted_of b tones weights) (Text b)
+    pub judgement_padded : judgement_in b m (padded (weighted_of b tones weights)) ≡ unless_unclear m (weighted_of b tones weights) (Ok b)
     unfolding judgement_in unless_unclear
     judgement_padded = rw (first_padded, characters_length) (by (ltb p b) refl)
       where
@@ -64,6 +64,6 @@ module _ (b : ℕ) (tones weights : List ℕ) where
         p = first_unclear m (weighted_of b tones weights)
 
         by : (t : Bool) → ltb p b ≡ t
-            → cond t (Refused (unclear_at p (lead_in (padded (weighted_of b tones weights)) p))) (Text b) ≡ cond t (Refused (unclear_at p (lead_in (weighted_of b tones weights) p))) (Text b)
-        by true e = ap (λ (lead : ℕ). Refused (unclear_at p lead)) (same_lead p (ltb-true p b e))
+            → cond t (Err (unclear_at p (lead_in (padded (weighted_of b tones weights)) p))) (Ok b) ≡ cond t (Err (unclear_at p (lead_in (weighted_of b tones weights) p))) (Ok b)
+        by true e = ap (λ (lead : ℕ). Err (unclear_at p lead)) (same_lead p (ltb-true p b e))
         by false e = refl

@@ -1,9 +1,9 @@
 -- Document 01, "Hearing a block", with the weights of document 02, order 3, and what decoding a block answers and leaves in the output.
 -- Checks when hearing: 1, 2, 7, 9, 8, 14, 10. Plain hearing is hearing with weight 1 throughout, so that 14 does not occur.
-use Rattle.std.specs.Prelude.{Bool, cond, not, List, map, ℕ, ◌+◌, ◌%◌, ◌^◌, ltb, eqb, ℤ, pos, length, get_or, take, replicate}
+use Rattle.std.specs.Prelude.{Bool, cond, not, List, map, ℕ, ◌+◌, ◌%◌, ◌^◌, ltb, eqb, ℤ, pos, length, get_or, take, replicate, Ok, Err}
 use Rattle.lists.specs.Lists.{tab, num, over}
 use Rattle.lists.specs.Places.{first}
-use Rattle.refusal.specs.Refused.{refused_at, unclear_at}
+use Rattle.refusal.specs.Refused.{Answered, refused_at, unclear_at}
 use Rattle.refusal.specs.Checks.{is_lead_at, is_mode}
 use Rattle.walsh.specs.Words.{signed, corr, turned}
 use Rattle.decision.specs.Decision.{decision, none}
@@ -12,9 +12,8 @@ use Rattle.chain.specs.Chain.{missing_mark, bit, key_bit}
 use Rattle.chain.specs.Tables.{symbol_of}
 use Rattle.tone_range.specs.Range.{first_bad_tone}
 use Rattle.weight_range.specs.Range.{throughout, first_bad_weight}
-use Rattle.block_decoder.specs.declared.Decoded.{Decoded}
-use Rattle.block_decoder.specs.declared.Decoded.TheVariants.{Text, Refused}
 use Rattle.block_decoder.specs.declared.BlockDecoded.{BlockDecoded}
+use Rattle.refusal.specs.declared.Reason.{Reason}
 
 -- ---- the characters
 
@@ -70,10 +69,10 @@ unfoldable pub first_unclear : ℕ → List Character → ℕ
 first_unclear m characters = first (λ q. ltb (lead_in characters q) m) (length characters)
 
 -- 10 with the place and the lead of the lowest unclear character; if all are clear, the answer that is given for them
-unfoldable pub unless_unclear : ℕ → List Character → Decoded → Decoded
+unfoldable pub unless_unclear : ℕ → List Character → Answered ℕ → Answered ℕ
 unless_unclear m characters clear =
     cond (ltb (first_unclear m characters) (length characters))
-    (Refused (unclear_at (first_unclear m characters) (lead_in characters (first_unclear m characters))))
+    (Err (unclear_at (first_unclear m characters) (lead_in characters (first_unclear m characters))))
     clear
 
 -- an answer's eight characters: those of the block, and none after them
@@ -82,19 +81,19 @@ padded characters = over characters (replicate 8 none)
 
 -- a refusal before any character is decided
 unfoldable pub refused : ℕ → ℕ → BlockDecoded
-refused number place = record { answer = Refused (refused_at number place); characters = replicate 8 none }
+refused number place = record { answer = Err (refused_at number place); characters = replicate 8 none }
 
 -- the answer for an output of room codes, where weights are 0 to N, and m is 1 to 64 * N
 unfoldable pub heard_block : ℕ → ℕ → ℕ → List ℕ → List ℕ → ℕ → BlockDecoded
 heard_block N b m tones weights room =
-    cond (not (is_mode b)) (refused 1 0)
-    (cond (not (is_lead_at N m)) (refused 2 0)
-    (cond (not (eqb (length tones) 64)) (refused 7 0)
-    (cond (not (eqb (length weights) 64)) (refused 7 0)
-    (cond (ltb room b) (refused 9 0)
-    (cond (ltb (first_bad_tone (2 ^ b) tones) 64) (refused 8 (first_bad_tone (2 ^ b) tones))
-    (cond (ltb (first_bad_weight N weights) 64) (refused 14 (first_bad_weight N weights))
-    (record { answer = unless_unclear m (weighted_of b tones weights) (Text b); characters = padded (weighted_of b tones weights) })))))))
+    cond (not (is_mode b)) (refused Reason.Mode 0)
+    (cond (not (is_lead_at N m)) (refused Reason.LeastLead 0)
+    (cond (not (eqb (length tones) 64)) (refused Reason.ToneCount 0)
+    (cond (not (eqb (length weights) 64)) (refused Reason.ToneCount 0)
+    (cond (ltb room b) (refused Reason.Room 0)
+    (cond (ltb (first_bad_tone (2 ^ b) tones) 64) (refused Reason.Tone (first_bad_tone (2 ^ b) tones))
+    (cond (ltb (first_bad_weight N weights) 64) (refused Reason.Weight (first_bad_weight N weights))
+    (record { answer = unless_unclear m (weighted_of b tones weights) (Ok b); characters = padded (weighted_of b tones weights) })))))))
 
 -- plain hearing
 abbrev pub decode_block : ℕ → ℕ → List ℕ → ℕ → BlockDecoded
@@ -107,9 +106,9 @@ decode_weighted b m tones weights room = heard_block 15 b m tones weights room
 -- ---- the output
 
 -- after an answer: the first n codes at its front, or as it was
-unfoldable pub heard_into : Decoded → List ℕ → List ℕ → List ℕ
-heard_into (Text n) codes out = over (take n codes) out
-heard_into (Refused r) codes out = out
+unfoldable pub heard_into : Answered ℕ → List ℕ → List ℕ → List ℕ
+heard_into (Ok n) codes out = over (take n codes) out
+heard_into (Err r) codes out = out
 
 unfoldable pub heard_block_into : ℕ → ℕ → ℕ → List ℕ → List ℕ → List ℕ → List ℕ
 heard_block_into N b m tones weights out = heard_into (heard_block N b m tones weights (length out)).answer (codes_of (weighted_of b tones weights)) out

@@ -1,16 +1,14 @@
 -- What only private contracts need: the symbols that are seen and the weights that count, and what is found in an answer's array of eight
 -- characters.
-use Rattle.std.specs.Prelude.{cond, List, ℕ, ltb, eqb, get_or, replicate}
+use Rattle.std.specs.Prelude.{cond, List, ℕ, ltb, eqb, get_or, replicate, Ok, Err}
 use Rattle.lists.specs.Lists.{tab, num, over}
 use Rattle.lists.specs.Places.{first}
-use Rattle.refusal.specs.Refused.{unclear_at}
+use Rattle.refusal.specs.Refused.{Answered, unclear_at}
 use Rattle.decision.specs.Decision.{none}
 use Rattle.decision.specs.declared.Character.{Character}
 use Rattle.chain.specs.Chain.{missing_mark}
 use Rattle.chain.specs.Tables.{symbol_of}
 use Rattle.block_decoder.specs.Decoding.{heard_weight, lead_in}
-use Rattle.block_decoder.specs.declared.Decoded.{Decoded}
-use Rattle.block_decoder.specs.declared.Decoded.TheVariants.{Text, Refused}
 
 -- ---- symbols and weights
 
@@ -33,6 +31,6 @@ code_in characters q = (get_or characters q none).code
 unfoldable pub first_unclear_in : ℕ → ℕ → List Character → ℕ
 first_unclear_in n m characters = first (λ q. ltb (lead_in characters q) m) n
 
-unfoldable pub judgement_in : ℕ → ℕ → List Character → Decoded
+unfoldable pub judgement_in : ℕ → ℕ → List Character → Answered ℕ
 judgement_in n m characters =
-    cond (ltb (first_unclear_in n m characters) n) (Refused (unclear_at (first_unclear_in n m characters) (lead_in characters (first_unclear_in n m characters)))) (Text n)
+    cond (ltb (first_unclear_in n m characters) n) (Err (unclear_at (first_unclear_in n m characters) (lead_in characters (first_unclear_in n m characters)))) (Ok n)

@@ -7,7 +7,7 @@ ghost use Rattle.block_decoder.specs.Internal.{judgement_in};
 
 use chain::{MISSING, interleaver};
 use decision::{Character, NONE};
-use refusal::{Refusal, checks};
+use refusal::{Reason, Refusal, checks};
 
 mod decode;
 
@@ -27,7 +27,7 @@ pub enum Decoded {
 // The answer, and the decisions on the mode's characters that it rests on, also where that is refusal 10; the rest of the eight are NONE.
 #[derive(Clone, Copy)]
 pub struct BlockDecoded {
-    pub answer: Decoded,
+    pub answer: Result<usize, Refusal>,
     pub characters: [Character; 8],
 }
 
@@ -96,37 +96,37 @@ fn hear(
     ensures output { codes.new ≡ heard_into (heard_block greatest mode least_lead tones.now weights.now room).answer (codes_of (weighted_of mode tones.now weights.now)) codes.old }
 {
     if !checks::is_mode(mode) {
-        return refused(refusal::MODE, 0);
+        return refused(Reason::Mode, 0);
     }
     if !checks::is_lead_at(greatest, least_lead) {
-        return refused(refusal::LEAST_LEAD, 0);
+        return refused(Reason::LeastLead, 0);
     }
     if tones.len() != 64 {
-        return refused(refusal::TONE_COUNT, 0);
+        return refused(Reason::ToneCount, 0);
     }
     if weights.len() != 64 {
-        return refused(refusal::TONE_COUNT, 0);
+        return refused(Reason::ToneCount, 0);
     }
     let b = mode as usize;
     if room < b {
-        return refused(refusal::ROOM, 0);
+        return refused(Reason::Room, 0);
     }
     let mut symbols = [0u8; 64];
     let bad = decode::look(checks::tone_count(mode), tones, &mut symbols);
     if bad < 64 {
-        return refused(refusal::TONE, bad);
+        return refused(Reason::Tone, bad);
     }
     let bad_weight = weight_range::first_bad_weight(greatest, weights);
     if bad_weight < 64 {
-        return refused(refusal::WEIGHT, bad_weight);
+        return refused(Reason::Weight, bad_weight);
     }
     let heard = decode::heard_weights(tones, weights);
     let values = interleaver::values(mode);
     let characters = characters::decide(mode, 0, &values, &symbols, &heard);
     let answer = judge(b, least_lead, characters);
     match answer {
-        Decoded::Text(count) => decode::put_codes(count, characters, codes),
-        Decoded::Refused(_) => {}
+        Ok(count) => decode::put_codes(count, characters, codes),
+        Err(_) => {}
     }
     BlockDecoded { answer, characters }
 }
@@ -142,19 +142,19 @@ fn refused(number: u8, place: usize) -> BlockDecoded
     ensures { result ≡ refused number place }
 {
     BlockDecoded {
-        answer: Decoded::Refused(Refusal::at(number, place)),
+        answer: Err(Refusal::at(number, place)),
         characters: [NONE; 8],
     }
 }
 
-fn judge(mode: usize, least_lead: u32, characters: [Character; 8]) -> Decoded
+fn judge(mode: usize, least_lead: u32, characters: [Character; 8]) -> Result<usize, Refusal>
     requires { mode ≤ 8 }
     ensures { result ≡ judgement_in mode least_lead characters }
 {
     let q = decode::first_unclear(mode, least_lead, characters);
     if q < mode {
         let character = characters[q];
-        return Decoded::Refused(Refusal::unclear(q, character.lead));
+        return Err(Refusal::unclear(q, character.lead));
     }
-    Decoded::Text(mode)
+    Ok(mode)
 }

@@ -1,14 +1,13 @@
 -- What is checked of a block that is to be sent later: 1, 5, 6.
-use Rattle.std.specs.Prelude.{cond, not, List, ℕ, ltb, eqb, length}
-use Rattle.refusal.specs.Refused.{refused_at}
+use Rattle.std.specs.Prelude.{cond, not, List, ℕ, ltb, eqb, length, Ok, Err}
+use Rattle.refusal.specs.Refused.{Answered, refused_at}
 use Rattle.refusal.specs.Checks.{is_mode}
 use Rattle.block_encoder.specs.Encoding.{first_bad_code}
-use Rattle.block_encoder.specs.declared.Checked.{Checked}
-use Rattle.block_encoder.specs.declared.Checked.TheVariants.{Right, Refused}
+use Rattle.refusal.specs.declared.Reason.{Reason}
 
-unfoldable pub check_codes : ℕ → List ℕ → Checked
+unfoldable pub check_codes : ℕ → List ℕ → Answered Unit
 check_codes b codes =
-    cond (not (is_mode b)) (Refused (refused_at 1 0))
-    (cond (not (eqb (length codes) b)) (Refused (refused_at 5 0))
-    (cond (ltb (first_bad_code codes) b) (Refused (refused_at 6 (first_bad_code codes)))
-    Right))
+    cond (not (is_mode b)) (Err (refused_at Reason.Mode 0))
+    (cond (not (eqb (length codes) b)) (Err (refused_at Reason.CodeCount 0))
+    (cond (ltb (first_bad_code codes) b) (Err (refused_at Reason.Code (first_bad_code codes)))
+    (Ok tt)))

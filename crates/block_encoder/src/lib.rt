@@ -9,7 +9,7 @@ ghost use Rattle.block_encoder.specs.Encoding.{first_bad_code, encode_block, enc
 ghost use Rattle.block_encoder.specs.Checking.{check_codes};
 
 use chain::gray;
-use refusal::{Refusal, checks};
+use refusal::{Reason, Refusal, checks};
 
 mod symbols;
 
@@ -28,44 +28,44 @@ pub enum Checked {
 }
 
 // Encodes the mode's codes as 64 tones at the front of tones.
-pub fn encode_block(mode: u32, codes: &[u8], tones: &mut [u16]) -> Encoded
+pub fn encode_block(mode: u32, codes: &[u8], tones: &mut [u16]) -> Result<usize, Refusal>
     ensures answer { result ≡ encode_block mode codes.now (length tones.old) }
     ensures output { tones.new ≡ encoded_into mode codes.now tones.old }
 {
     if !checks::is_mode(mode) {
-        return Encoded::Refused(Refusal::at(refusal::MODE, 0));
+        return Err(Refusal::at(Reason::Mode, 0));
     }
     let b = mode as usize;
     if codes.len() != b {
-        return Encoded::Refused(Refusal::at(refusal::CODE_COUNT, 0));
+        return Err(Refusal::at(Reason::CodeCount, 0));
     }
     if tones.len() < 64 {
-        return Encoded::Refused(Refusal::at(refusal::ROOM, 0));
+        return Err(Refusal::at(Reason::Room, 0));
     }
     let bad = first_bad_code(codes);
     if bad < b {
-        return Encoded::Refused(Refusal::at(refusal::CODE, bad));
+        return Err(Refusal::at(Reason::Code, bad));
     }
     put_tones(mode, codes, tones);
-    Encoded::Tones(64)
+    Ok(64)
 }
 
 // Whether the codes are a block of the mode, for a block that is to be sent later.
-pub fn check_codes(mode: u32, codes: &[u8]) -> Checked
+pub fn check_codes(mode: u32, codes: &[u8]) -> Result<(), Refusal>
     ensures { result ≡ check_codes mode codes.now }
 {
     if !checks::is_mode(mode) {
-        return Checked::Refused(Refusal::at(refusal::MODE, 0));
+        return Err(Refusal::at(Reason::Mode, 0));
     }
     let b = mode as usize;
     if codes.len() != b {
-        return Checked::Refused(Refusal::at(refusal::CODE_COUNT, 0));
+        return Err(Refusal::at(Reason::CodeCount, 0));
     }
     let bad = first_bad_code(codes);
     if bad < b {
-        return Checked::Refused(Refusal::at(refusal::CODE, bad));
+        return Err(Refusal::at(Reason::Code, bad));
     }
-    Checked::Right
+    Ok(())
 }
 
 // The lowest place of a code of 128 or more, else the count of codes.

@@ -1,14 +1,13 @@
 -- Document 01, "The listing program", and order 5: the lines of a block, as bytes.
-use Rattle.std.specs.Prelude.{cond, List, [], ◌++◌, ℕ, zero, suc, min, eqb, ℤ, get_or}
+use Rattle.std.specs.Prelude.{cond, List, [], ◌++◌, ℕ, zero, suc, min, eqb, ℤ, get_or, Ok, Err}
 use Rattle.text.specs.Ascii.{ascii, line_feed, space}
 use Rattle.text.specs.Decimal.{field, signed_field}
 use Rattle.refusal.specs.declared.Refusal.{Refusal}
 use Rattle.decision.specs.Decision.{none}
 use Rattle.decision.specs.declared.Character.{Character}
-use Rattle.block_decoder.specs.declared.Decoded.{Decoded}
 use Rattle.block_decoder.specs.declared.BlockDecoded.{BlockDecoded}
-use Rattle.block_decoder.specs.declared.Decoded.TheVariants.{Text, Refused}
 use Rattle.report.specs.Output.{refused_text}
+use Rattle.refusal.specs.Refused.{Answered}
 
 -- block number, and a character's place in it
 unfoldable pub place_text : ℕ → ℕ → List ℕ
@@ -47,9 +46,9 @@ unfoldable pub refusal_text : ℕ → Refusal → List Character → List ℕ
 refusal_text block r characters = cond (eqb r.number 10) (unclear_text block r (get_or characters r.place none)) (refused_text r)
 
 -- the lines of an answer; a block has eight characters at most
-unfoldable pub answer_text : ℕ → Decoded → List Character → List ℕ
-answer_text block (Text n) characters = characters_text block characters (min n 8)
-answer_text block (Refused r) characters = refusal_text block r characters
+unfoldable pub answer_text : ℕ → Answered ℕ → List Character → List ℕ
+answer_text block (Ok n) characters = characters_text block characters (min n 8)
+answer_text block (Err r) characters = refusal_text block r characters
 
 -- the lines of a block that was heard
 unfoldable pub block_text : ℕ → BlockDecoded → List ℕ

@@ -8,9 +8,9 @@ ghost use Rattle.decision.specs.Decision.{none};
 ghost use Rattle.report.specs.Output.{fitting};
 ghost use Rattle.block_report.specs.Lines.{refusal_text, block_text};
 
-use block_decoder::{BlockDecoded, Decoded};
+use block_decoder::BlockDecoded;
 use decision::{Character, NONE};
-use refusal::Refusal;
+use refusal::{Reason, Refusal};
 use report::ROOM;
 
 mod lines;
@@ -25,11 +25,11 @@ pub fn put_block(block: u64, decoded: BlockDecoded, out: &mut [u8]) -> usize
     }
     let answer = decoded.answer;
     match answer {
-        Decoded::Text(n) => {
+        Ok(n) => {
             let characters = decoded.characters;
             lines::put_characters(block, at_most_eight(n), characters, out)
         }
-        Decoded::Refused(refusal) => {
+        Err(refusal) => {
             let characters = decoded.characters;
             put_refusal(block, refusal, characters, out)
         }
@@ -51,7 +51,7 @@ fn put_refusal(block: u64, refusal: Refusal, characters: [Character; 8], out: &m
     ensures answer { result ≡ length (refusal_text block refusal characters) }
     ensures output { out.new ≡ over (refusal_text block refusal characters) out.old }
 {
-    if refusal.number == refusal::UNCLEAR {
+    if refusal.number == Reason::Unclear {
         let character = character_at(refusal.place, characters);
         return lines::put_unclear(block, refusal, character, out);
     }

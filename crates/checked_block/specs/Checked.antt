@@ -3,7 +3,7 @@ use Rattle.std.specs.Prelude.{cond, List, ℕ, ◌^◌, ltb, length}
 use Rattle.lists.specs.Lists.{tab, num}
 use Rattle.chain.specs.Chain.{missing_mark}
 use Rattle.block_decoder.specs.Decoding.{decode_block, decoded_into}
-use Rattle.block_decoder.specs.declared.Decoded.{Decoded}
+use Rattle.refusal.specs.Refused.{Answered}
 
 -- a tone below limit, and every other one missing
 unfoldable pub tone_below : ℕ → ℕ → ℕ
@@ -17,7 +17,7 @@ unfoldable pub weight_below : ℕ → ℕ → ℕ
 weight_below limit tone = cond (ltb tone limit) 1 0
 
 -- the answer for an output of room codes
-abbrev pub decode_checked : ℕ → ℕ → List ℕ → ℕ → Decoded
+abbrev pub decode_checked : ℕ → ℕ → List ℕ → ℕ → Answered ℕ
 decode_checked b m tones room = (decode_block b m (tones_below (2 ^ b) tones) room).answer
 
 -- the output after it

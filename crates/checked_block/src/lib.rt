@@ -6,38 +6,36 @@ ghost use Rattle.lists.specs.Lists.{tab};
 ghost use Rattle.refusal.specs.Checks.{is_mode};
 ghost use Rattle.chain.specs.Tables.{symbol_of};
 ghost use Rattle.block_decoder.specs.Decoding.{characters_of, codes_of, unless_unclear, heard_into};
-ghost use Rattle.block_decoder.specs.declared.Decoded.TheVariants.{Text};
 ghost use Rattle.checked_block.specs.Checked.{tones_below, weight_below, decode_checked, checked_into};
 ghost use Rattle.checked_block.specs.Internal.{symbols_to, weights_below};
 
-use block_decoder::Decoded;
 use chain::{gray, interleaver};
-use refusal::{Refusal, checks};
+use refusal::{Reason, Refusal, checks};
 
 pub mod laws;
 
 // Decodes 64 tones to the mode's codes, at the front of codes. A tone that is none of the mode's counts as missing.
-pub fn decode(mode: u32, least_lead: u32, tones: &[u16], codes: &mut [u8]) -> Decoded
+pub fn decode(mode: u32, least_lead: u32, tones: &[u16], codes: &mut [u8]) -> Result<usize, Refusal>
     ensures answer { result ≡ decode_checked mode least_lead tones.now (length codes.old) }
     ensures output { codes.new ≡ checked_into mode least_lead tones.now codes.old }
 {
     if !checks::is_mode(mode) {
-        return Decoded::Refused(Refusal::at(refusal::MODE, 0));
+        return Err(Refusal::at(Reason::Mode, 0));
     }
     if !checks::is_lead(least_lead) {
-        return Decoded::Refused(Refusal::at(refusal::LEAST_LEAD, 0));
+        return Err(Refusal::at(Reason::LeastLead, 0));
     }
     if tones.len() != 64 {
-        return Decoded::Refused(Refusal::at(refusal::TONE_COUNT, 0));
+        return Err(Refusal::at(Reason::ToneCount, 0));
     }
     if codes.len() < mode as usize {
-        return Decoded::Refused(Refusal::at(refusal::ROOM, 0));
+        return Err(Refusal::at(Reason::Room, 0));
     }
     decide(mode, least_lead, tones, codes)
 }
 
 // Decides the characters. Both loops stand here, since functions that are handed the characters take more instructions.
-fn decide(mode: u32, least_lead: u32, tones: &[u16], codes: &mut [u8]) -> Decoded
+fn decide(mode: u32, least_lead: u32, tones: &[u16], codes: &mut [u8]) -> Result<usize, Refusal>
     requires { (is_mode mode ≡ true) × (length tones.now ≡ 64) × (mode ≤ length codes.old) }
     ensures answer { result ≡ unless_unclear least_lead (characters_of mode (tones_below (2 ^ mode) tones.now)) (Text mode) }
     ensures output { codes.new ≡ heard_into result (codes_of (characters_of mode (tones_below (2 ^ mode) tones.now))) codes.old }
@@ -52,7 +50,7 @@ fn decide(mode: u32, least_lead: u32, tones: &[u16], codes: &mut [u8]) -> Decode
     while q < b {
         let character = characters[q];
         if character.lead < least_lead {
-            return Decoded::Refused(Refusal::unclear(q, character.lead));
+            return Err(Refusal::unclear(q, character.lead));
         }
         q += 1;
     }
@@ -62,7 +60,7 @@ fn decide(mode: u32, least_lead: u32, tones: &[u16], codes: &mut [u8]) -> Decode
         codes[written] = character.code;
         written += 1;
     }
-    Decoded::Text(written)
+    Ok(written)
 }
 
 // The symbols of 64 tones by their lowest eight bits. Rows of 16 become straight code.

@@ -6,24 +6,24 @@ use Prim.Native.Nat.{ℕ, ◌-◌, ◌<◌, ◌≤◌}
 use borrow.Author.Tests.{lt-ltb, le-ltb, le-leb, lt-leb, ltb-false, leb-false}
 use lib.ListN.{length}
 use Rattle.lists.specs.Places.{first}
-use Rattle.refusal.specs.Refused.{refused_at}
+use Rattle.refusal.specs.Refused.{Answered, refused_at}
 use Rattle.refusal.specs.declared.Refusal.{Refusal}
-use Rattle.block_decoder.specs.declared.Decoded.{Decoded}
-use Rattle.block_decoder.specs.declared.Decoded.TheVariants.{Text, Refused}
 use Rattle.block_decoder.proofs.Clarity.{text_refused}
 use Rattle.delivery.specs.Delivery.{is_zero, text_end, first_zero, delivery}
+use Rattle.std.proofs.Common.{Ok, Err}
+use Rattle.refusal.specs.declared.Reason.{Reason}
 
 module _ (limit b : ℕ) (codes : List ℕ) (n : ℕ) (end : n ≡ text_end codes) where
-  pub refuses_zero : first (is_zero codes) n < n → delivery limit b codes ≡ Refused (refused_at 11 (first (is_zero codes) n))
+  pub refuses_zero : first (is_zero codes) n < n → delivery limit b codes ≡ Err (refused_at Reason.Zero (first (is_zero codes) n))
   unfolding delivery first_zero
   refuses_zero h = rw (← end) (simp (lt-ltb (first (is_zero codes) n) n h))
 
   module _ (no_zero : n ≤ first (is_zero codes) n) where
-    pub refuses_filling : b ≤ length codes - n → delivery limit b codes ≡ Refused (refused_at 11 n)
+    pub refuses_filling : b ≤ length codes - n → delivery limit b codes ≡ Err (refused_at Reason.Zero n)
     unfolding delivery first_zero
     refuses_filling h = rw (← end) (simp (le-ltb (first (is_zero codes) n) n no_zero, le-leb b (length codes - n) h))
 
-    pub refuses_long : length codes - n < b → limit < n → delivery limit b codes ≡ Refused (refused_at 12 limit)
+    pub refuses_long : length codes - n < b → limit < n → delivery limit b codes ≡ Err (refused_at Reason.TooLong limit)
     unfolding delivery first_zero
     refuses_long h l = rw (← end) (simp (le-ltb (first (is_zero codes) n) n no_zero, lt-leb b (length codes - n) h, lt-ltb limit n l))
 
@@ -34,20 +34,20 @@ pub record Delivered (limit b : ℕ) (codes : List ℕ) (n : ℕ) : Type 0 where
   pub filling : length codes - n < b
   pub fits : n ≤ limit
 
-pub delivers : (limit b : ℕ) (codes : List ℕ) (n : ℕ) → Delivered limit b codes n → delivery limit b codes ≡ Text n
+pub delivers : (limit b : ℕ) (codes : List ℕ) (n : ℕ) → Delivered limit b codes n → delivery limit b codes ≡ Ok n
 unfolding delivery first_zero
 delivers limit b codes n d =
     rw (← d.end) (simp (le-ltb (first (is_zero codes) n) n d.no_zero, lt-leb b (length codes - n) d.filling, le-ltb limit n d.fits))
 
 -- a text comes of the second of two answers, if the first is a refusal
-pub passes : (t : Bool) (r : Refusal) (n : ℕ) (d : Decoded) → cond t (Refused r) d ≡ Text n → (t ≡ false) × (d ≡ Text n)
+pub passes : (t : Bool) (r : Refusal) (n : ℕ) (d : Answered ℕ) → cond t (Err r) d ≡ Ok n → (t ≡ false) × (d ≡ Ok n)
 passes true r n d e = absurd (text_refused (sym e))
 passes false r n d e = (refl, e)
 
-same_count : {m n : ℕ} → Text m ≡ Text n → n ≡ m
+same_count : {m n : ℕ} → Ok m ≡ Ok n → n ≡ m
 same_count e = cc
 
-pub text_delivered : (limit b : ℕ) (codes : List ℕ) (n : ℕ) → delivery limit b codes ≡ Text n → Delivered limit b codes n
+pub text_delivered : (limit b : ℕ) (codes : List ℕ) (n : ℕ) → delivery limit b codes ≡ Ok n → Delivered limit b codes n
 unfolding delivery first_zero
 text_delivered limit b codes n e =
     let p1 = passes _ _ _ _ e in

@@ -5,27 +5,26 @@ ghost use Rattle.std.specs.Prelude.{◌≡◌, ◌≤◌, length};
 ghost use Rattle.lists.specs.Places.{first};
 ghost use Rattle.delivery.specs.Delivery.{is_zero, text_end, delivery};
 
-use block_decoder::Decoded;
-use refusal::Refusal;
+use refusal::{Reason, Refusal};
 
 pub mod laws;
 
 // The count of codes of a text of at most limit codes, or the refusal.
-pub fn judge(limit: usize, mode: usize, codes: &[u8]) -> Decoded
+pub fn judge(limit: usize, mode: usize, codes: &[u8]) -> Result<usize, Refusal>
     ensures { result ≡ delivery limit mode codes.now }
 {
     let n = text_end(codes);
     let zero = first_zero(codes, n);
     if zero < n {
-        return Decoded::Refused(Refusal::at(refusal::ZERO, zero));
+        return Err(Refusal::at(Reason::Zero, zero));
     }
     if mode <= codes.len() - n {
-        return Decoded::Refused(Refusal::at(refusal::ZERO, n));
+        return Err(Refusal::at(Reason::Zero, n));
     }
     if limit < n {
-        return Decoded::Refused(Refusal::at(refusal::TOO_LONG, limit));
+        return Err(Refusal::at(Reason::TooLong, limit));
     }
-    Decoded::Text(n)
+    Ok(n)
 }
 
 // The place after the last code that is not 0, or 0.

@@ -12,7 +12,7 @@ use Rattle.lists.specs.Lists.{num, over}
 use Rattle.lists.proofs.Fronts.{take_over}
 use Rattle.lists.proofs.Places.{first_ext}
 use Rattle.lists.proofs.Tables.{is_tab}
-use Rattle.refusal.specs.Refused.{unclear_at}
+use Rattle.refusal.specs.Refused.{Answered, unclear_at}
 use Rattle.refusal.specs.Checks.{is_lead}
 use Rattle.walsh.specs.Words.{corr}
 use Rattle.decision.specs.Decision.{decision}
@@ -22,8 +22,6 @@ use Rattle.tone_range.specs.Range.{HasTones}
 use Rattle.weight_range.specs.Range.{HasWeights}
 use Rattle.weight_range.proofs.Ranges.{has_throughout}
 use Rattle.block_decoder.specs.Decoding.{plain, symbols_of, count_in, weighted_at, weighted_of, character_at, characters_of, codes_of, lead_in, first_unclear, unless_unclear, heard_block, decode_block, heard_block_into, decoded_into}
-use Rattle.block_decoder.specs.declared.Decoded.{Decoded}
-use Rattle.block_decoder.specs.declared.Decoded.TheVariants.{Text, Refused}
 use Rattle.block_decoder.specs.declared.BlockDecoded.{BlockDecoded}
 use Rattle.block_decoder.proofs.Characters.{characters_length, character_at_lem, same_lead, codes_are, codes_length}
 use Rattle.block_decoder.proofs.Clarity.{unclear_is, all_clear, clear_lead, unclear_told, clear_told}
@@ -31,6 +29,7 @@ use Rattle.block_decoder.proofs.DecodeCases.{Passed, judged, codes_kept, codes_w
 use Rattle.block_decoder.proofs.Answers.{weighed_up, passed}
 use Rattle.demands.specs.Demand.{Gives, RefusesAsUnclear}
 use Rattle.demands.specs.Laws.{Precisely, Clear, OddLeads}
+use Rattle.std.proofs.Common.{Ok, Err}
 
 -- ---- a block that breaks no limit, with weights up to N
 
@@ -55,19 +54,19 @@ module _ (N b m : ℕ) (tones weights codes : List ℕ) (p : Passed N b m (lengt
   refuses l =
       let p = first_unclear m characters in
       let first = unclear_is m characters in
-      let answer : heard.answer ≡ Refused (unclear_at p (lead_in characters p)) =
-      ap (λ (d : BlockDecoded). d.answer) whole ∙ unclear_told m characters (Text b) (omega (arith, count)) in
+      let answer : heard.answer ≡ Err (unclear_at p (lead_in characters p)) =
+      ap (λ (d : BlockDecoded). d.answer) whole ∙ unclear_told m characters (Ok b) (omega (arith, count)) in
       record {
         place = p;
         inside = l;
-        refused = answer ∙ ap (λ (n : ℕ). Refused (unclear_at p n)) (sym (lead_decided p l));
+        refused = answer ∙ ap (λ (n : ℕ). Err (unclear_at p n)) (sym (lead_decided p l));
         unclear = omega (arith, lead_decided p l, ltb-true (lead_in characters p) m (first.holds (omega (arith, count))));
         lowest = λ q g. omega (arith, lead_decided q (omega arith), ltb-false (lead_in characters q) m (first.lowest q g));
         kept = codes_kept N b m tones weights codes answer;
       }
 
-  accepts : length characters ≤ first_unclear m characters → heard.answer ≡ Text b
-  accepts l = ap (λ (d : BlockDecoded). d.answer) whole ∙ clear_told m characters (Text b) l
+  accepts : length characters ≤ first_unclear m characters → heard.answer ≡ Ok b
+  accepts l = ap (λ (d : BlockDecoded). d.answer) whole ∙ clear_told m characters (Ok b) l
 
   -- an accepted block whose decisions are the codes of a text gives it
   pub gives : (text : List ℕ) → length text ≡ b → ((q : ℕ) → q < b → (weighted_at b tones weights q).code ≡ num text q) → length characters ≤ first_unclear m characters
@@ -96,7 +95,7 @@ module _ (N b m : ℕ) (tones weights codes : List ℕ) (p : Passed N b m (lengt
 -- ---- plain hearing
 
 -- the codes that an accepted block writes
-pub written_text : (b m : ℕ) (tones codes : List ℕ) → (decode_block b m tones (length codes)).answer ≡ Text b
+pub written_text : (b m : ℕ) (tones codes : List ℕ) → (decode_block b m tones (length codes)).answer ≡ Ok b
     → take b (decoded_into b m tones codes) ≡ codes_of (characters_of b tones)
 written_text b m tones codes answer =
     ap (take b) (codes_written 1 b m tones plain codes answer)
@@ -137,14 +136,14 @@ module _ (k : ℕ) where
     unfolding first_unclear
     odd_unclear = first_ext _ _ (length characters) (λ i l. odd_test (lead_in characters i) (even i l))
 
-    pub odd_answer : (clear : Decoded) → unless_unclear (2 * k - 1) characters clear ≡ unless_unclear (2 * k) characters clear
+    pub odd_answer : (clear : Answered ℕ) → unless_unclear (2 * k - 1) characters clear ≡ unless_unclear (2 * k) characters clear
     unfolding unless_unclear
     odd_answer clear = rw odd_unclear
 
   odd_as_even : (b : ℕ) (tones : List ℕ) (room : ℕ) → decode_block b (2 * k - 1) tones room ≡ decode_block b (2 * k) tones room
   unfolding heard_block
   odd_as_even b tones room =
-      rw (odd_limit, odd_answer (characters_of b tones) (λ q l. even q (omega (arith, characters_length b tones plain))) (Text b))
+      rw (odd_limit, odd_answer (characters_of b tones) (λ q l. even q (omega (arith, characters_length b tones plain))) (Ok b))
     where
       even : (q : ℕ) → q < b → lead_in (characters_of b tones) q % 2 ≡ 0
       even q l = ap (λ (c : Character). c.lead % 2) (character_at_lem b tones plain q l) ∙ lead_even b tones q

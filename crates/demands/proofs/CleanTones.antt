@@ -30,7 +30,6 @@ use Rattle.weight_range.proofs.Ranges.{weight_throughout}
 use Rattle.block_encoder.specs.Encoding.{IsText}
 use Rattle.block_encoder.proofs.EncodeCases.{tones_written}
 use Rattle.block_decoder.specs.Decoding.{plain, heard_symbol, symbols_of, count_of, count_in, weighted_at, character_at, characters_of, codes_of, lead_in, decode_block}
-use Rattle.block_decoder.specs.declared.Decoded.TheVariants.{Text}
 use Rattle.block_decoder.specs.declared.BlockDecoded.{BlockDecoded}
 use Rattle.block_decoder.proofs.Counts.{heard_present, heard_missing, symbol_heard, count_missing, count_present}
 use Rattle.block_decoder.proofs.Characters.{character_padded, codes_are, codes_length}
@@ -40,6 +39,7 @@ use Rattle.demands.proofs.Hearings.{word_of, sign_of, sent_code, plain_within}
 use Rattle.demands.proofs.Agreement.{CleanCounts, clean_counts}
 use Rattle.demands.proofs.Answers.{written_text}
 use Rattle.demands.proofs.Sent.{sends}
+use Rattle.std.proofs.Common.{Ok}
 
 -- ---- a code from its word and sign
 
@@ -125,7 +125,7 @@ module _ (b : ℕ) (tones : List ℕ) (low : 1 ≤ b) (high : b ≤ 8) (w : HasT
   unfolding tones_of
   clean_tones = is_tab (tone_at b (decided_text b tones)) 0 64 tones w.count tone_clean
 
-module _ (b m : ℕ) (tones codes sent : List ℕ) (answer : (decode_block b m tones (length codes)).answer ≡ Text b)
+module _ (b m : ℕ) (tones codes sent : List ℕ) (answer : (decode_block b m tones (length codes)).answer ≡ Ok b)
     (clean : AreClean b (decode_block b m tones (length codes)).characters) (room : 64 ≤ length sent)
     (a : Accepted 1 b m tones plain (length codes) b) where
   mode : is_mode b ≡ true

@@ -14,18 +14,18 @@ use Rattle.refusal.proofs.Limits.{mode_range}
 use Rattle.chain.specs.Chain.{missing_mark, tone_at, tones_of}
 use Rattle.chain.proofs.Tones.{tones_length, tone_sent, tone_below_lem}
 use Rattle.block_encoder.specs.Encoding.{IsText, first_bad_code, encode_block, sent_into, encoded_into, count_sent, on_air}
-use Rattle.block_encoder.specs.declared.Encoded.{Encoded}
-use Rattle.block_encoder.specs.declared.Encoded.TheVariants.{Tones}
 use Rattle.block_encoder.proofs.Ranges.{text_in_range}
 use Rattle.block_encoder.proofs.EncodeCases.{refuses_mode, encodes, tones_written}
 use Rattle.demands.specs.Laws.{air, AreSent, NoMark}
 use Rattle.demands.proofs.Hearings.{tone_present}
+use Rattle.std.proofs.Common.{Ok}
+use Rattle.refusal.specs.Refused.{Answered}
 
 module _ (b : ℕ) (text tones : List ℕ) where
-  pub sends : is_mode b ≡ true → IsText b text → 64 ≤ length tones → encode_block b text (length tones) ≡ Tones 64
+  pub sends : is_mode b ≡ true → IsText b text → 64 ≤ length tones → encode_block b text (length tones) ≡ Ok 64
   sends mode is_text_lem h = encodes b text (length tones) mode is_text_lem.count h (text_in_range b text is_text_lem)
 
-  pub air_sent : encode_block b text (length tones) ≡ Tones 64 → air b text tones ≡ tones_of b text
+  pub air_sent : encode_block b text (length tones) ≡ Ok 64 → air b text tones ≡ tones_of b text
   unfolding air on_air
   air_sent e = ap₂ take (ap count_sent e) (tones_written b text tones e) ∙ take_over (tones_of b text) tones 64 (tones_length b text)
 
@@ -46,7 +46,7 @@ sent_without_mark : (b : ℕ) (text tones : List ℕ) → AreSent b (air b text 
 unfolding air on_air encoded_into sent_into encode_block
 sent_without_mark b text tones = by (is_mode b) refl
   where
-    Sent : Encoded → Type 0
+    Sent : Answered ℕ → Type 0
     Sent e = AreSent b (take (count_sent e) (sent_into e (tones_of b text) tones))
 
     by : (t : Bool) → is_mode b ≡ t → Sent (encode_block b text (length tones))

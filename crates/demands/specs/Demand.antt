@@ -1,6 +1,6 @@
 -- Demand 3 of document 01, said of the answers and outputs of three calls: a text is encoded, decoded, and decoded from what was heard of
 -- it. The outputs are `tones` of the sender, `one` of the first receiver and `two` of the second; a prime marks an output after its call.
-use Rattle.std.specs.Prelude.{◌≡◌, Bool, cond, not, ◌&&◌, List, ◌⊎◌, ℕ, ◌+◌, ◌-◌, ◌*◌, ◌<◌, ◌≤◌, ◌^◌, ltb, eqb, length}
+use Rattle.std.specs.Prelude.{◌≡◌, Bool, cond, not, ◌&&◌, List, ◌⊎◌, ℕ, ◌+◌, ◌-◌, ◌*◌, ◌<◌, ◌≤◌, ◌^◌, ltb, eqb, length, Ok, Err}
 use Rattle.lists.specs.Lists.{num, over}
 use Rattle.lists.specs.Sums.{total}
 use Rattle.refusal.specs.Refused.{unclear_at}
@@ -8,9 +8,7 @@ use Rattle.refusal.specs.Checks.{IsSet}
 use Rattle.chain.specs.Chain.{missing_mark, tones_of}
 use Rattle.tone_range.specs.Range.{HasTones}
 use Rattle.block_encoder.specs.Encoding.{IsText, encode_block, encoded_into}
-use Rattle.block_encoder.specs.declared.Encoded.TheVariants.{Tones}
 use Rattle.block_decoder.specs.Decoding.{lead_in, decode_block, decoded_into}
-use Rattle.block_decoder.specs.declared.Decoded.TheVariants.{Text, Refused}
 use Rattle.block_decoder.specs.declared.BlockDecoded.{BlockDecoded}
 use Rattle.demands.specs.declared.Trial.{Trial}
 
@@ -59,21 +57,21 @@ pub record Covered (b m : ℕ) (text heard tones one two : List ℕ) : Type 0 wh
 
 -- to give a text is to accept the block and write exactly its b codes to the first b bytes of the output
 pub record Gives (b : ℕ) (text : List ℕ) (d : BlockDecoded) (out out' : List ℕ) : Type 0 where
-  pub accepted : d.answer ≡ Text b
+  pub accepted : d.answer ≡ Ok b
   pub written : out' ≡ over text out
 
 -- to refuse as unclear is refusal 10, with the place and lead of the lowest unclear character and nothing written
 pub record RefusesAsUnclear (b m : ℕ) (d : BlockDecoded) (out out' : List ℕ) : Type 0 where
   pub place : ℕ
   pub inside : place < b
-  pub refused : d.answer ≡ Refused (unclear_at place (lead_in d.characters place))
+  pub refused : d.answer ≡ Err (unclear_at place (lead_in d.characters place))
   pub unclear : lead_in d.characters place < m
   pub lowest : (q : ℕ) → q < place → m ≤ lead_in d.characters q
   pub kept : out' ≡ out
 
 -- of the three answers with r and u, and of the three outputs
 pub record MeetsDemand3 (b m : ℕ) (text : List ℕ) (t : Trial) (tones tones' one one' two two' : List ℕ) : Type 0 where
-  pub accepted : t.encoded ≡ Tones 64
+  pub accepted : t.encoded ≡ Ok 64
   pub sent : tones' ≡ over (tones_of b text) tones
   pub first : Gives b text t.first one one'
   pub places : t.replaced + t.missing ≤ 64

@@ -1,5 +1,5 @@
 -- The laws of a block. Each is the promise of the function of the same name in src/laws.rt.
-use Rattle.std.specs.Prelude.{◌≡◌, cond, ◌≢◌, List, ℕ, ◌-◌, ◌*◌, ◌%◌, ◌<◌, ◌≤◌, ◌^◌, leb, eqb, pos, nat_abs, length, take}
+use Rattle.std.specs.Prelude.{◌≡◌, cond, ◌≢◌, List, ℕ, ◌-◌, ◌*◌, ◌%◌, ◌<◌, ◌≤◌, ◌^◌, leb, eqb, pos, nat_abs, length, take, Ok}
 use Rattle.lists.specs.Lists.{tab, num, over}
 use Rattle.refusal.specs.Checks.{IsSet}
 use Rattle.walsh.specs.Words.{signed, corr}
@@ -7,9 +7,7 @@ use Rattle.decision.specs.declared.Character.{Character}
 use Rattle.chain.specs.Chain.{missing_mark}
 use Rattle.tone_range.specs.Range.{HasTones}
 use Rattle.block_encoder.specs.Encoding.{IsText, encode_block, encoded_into, on_air}
-use Rattle.block_encoder.specs.declared.Encoded.TheVariants.{Tones}
 use Rattle.block_decoder.specs.Decoding.{plain, symbols_of, count_in, character_at, lead_in, padded, decode_block, decoded_into}
-use Rattle.block_decoder.specs.declared.Decoded.TheVariants.{Text}
 use Rattle.block_decoder.specs.declared.BlockDecoded.{BlockDecoded}
 use Rattle.demands.specs.Demand.{Gives, RefusesAsUnclear}
 
@@ -41,7 +39,7 @@ undamaged v = record {
 
 -- A text encoded and decoded, into outputs long enough and at any m, comes back with every lead 64.
 pub record ComesBack (b m : ℕ) (text tones out : List ℕ) : Type 0 where
-  pub sent : encode_block b text (length tones) ≡ Tones 64
+  pub sent : encode_block b text (length tones) ≡ Ok 64
   pub given : Gives b text (decode_block b m (air b text tones) (length out)) out (decoded_into b m (air b text tones) out)
   pub characters : (decode_block b m (air b text tones) (length out)).characters ≡ padded (tab (λ q. undamaged (num text q)) b)
 
@@ -61,12 +59,12 @@ pub record AreClean (n : ℕ) (characters : List Character) : Type 0 where
 
 -- Accepted clean tones encode back to themselves.
 pub record CleanBack (b m : ℕ) (tones codes sent : List ℕ) : Type 0 where
-  pub answer : encode_block b (take b (decoded_into b m tones codes)) (length sent) ≡ Tones 64
+  pub answer : encode_block b (take b (decoded_into b m tones codes)) (length sent) ≡ Ok 64
   pub written : encoded_into b (take b (decoded_into b m tones codes)) sent ≡ over tones sent
 
 pub record Clean : Type 0 where
   pub back : (b m : ℕ) (tones codes sent : List ℕ)
-      → (decode_block b m tones (length codes)).answer ≡ Text b
+      → (decode_block b m tones (length codes)).answer ≡ Ok b
       → AreClean b (decode_block b m tones (length codes)).characters
       → 64 ≤ length sent
       → CleanBack b m tones codes sent
@@ -74,7 +72,7 @@ pub record Clean : Type 0 where
 -- A block that breaks no limit is refused as unclear precisely when some character's lead is under m.
 pub record Precisely (b m : ℕ) (d : BlockDecoded) (out out' : List ℕ) : Type 0 where
   pub unclear : (q : ℕ) → q < b → lead_in d.characters q < m → RefusesAsUnclear b m d out out'
-  pub clear : ((q : ℕ) → q < b → m ≤ lead_in d.characters q) → d.answer ≡ Text b
+  pub clear : ((q : ℕ) → q < b → m ≤ lead_in d.characters q) → d.answer ≡ Ok b
 
 pub record Clear : Type 0 where
   pub precisely : (b m : ℕ) (tones codes : List ℕ) → IsSet b m → HasTones (2 ^ b) tones → b ≤ length codes

@@ -22,8 +22,8 @@ use Rattle.block_decoder.proofs.Seen.{seen_count}
 use Rattle.energy.specs.Energies.{energy_at, squared_weight, total_of, summed}
 use Rattle.energy.specs.Internal.{heard_of}
 use Rattle.energy.specs.declared.Heard.{Heard}
-use Rattle.energy.specs.declared.Totalled.TheVariants.{Total}
 use Rattle.energy.specs.declared.Energies.{Energies}
+use Rattle.std.proofs.Common.{Ok}
 
 module _ (tones weights : List ℕ) where
   weight_at : (t : ℕ) → t < 64 → num (heard_weights tones weights) t ≡ heard_weight (num tones t) (num weights t)
@@ -63,9 +63,9 @@ module _ (tones weights : List ℕ) where
       -- the answer by what is heard
       pub same_summed : (h : Heard) (n : ℕ) (sums : List ℕ) → h ≡ heard_of tones weights → n ≡ 64 * total 64 (λ t. num h.weights t * num h.weights t)
           → sums ≡ over (symbol_energies b values h.symbols h.weights) (replicate 8 0)
-          → ◌≡◌ {A = Energies} (record { answer = Total n; sums = sums }) (summed b tones weights)
+          → ◌≡◌ {A = Energies} (record { answer = Ok n; sums = sums }) (summed b tones weights)
       unfolding summed heard_of
       same_summed h n sums p f g =
           let a : n ≡ total_of tones weights = f ∙ rw p total_heard in
           let c : sums ≡ over (tab (energy_at b tones weights) b) (replicate 8 0) = g ∙ ap (λ (x : List ℕ). over x (replicate 8 0)) (rw p sums_heard) in
-          λ i. record { answer = Total (a i); sums = c i }
+          λ i. record { answer = Ok (a i); sums = c i }

@@ -13,7 +13,7 @@ ghost use Rattle.energy.specs.Energies.{refused, heard_energies, block_energies,
 
 use block_decoder::{GREATEST_WEIGHT, PLAIN_WEIGHT};
 use chain::{MISSING, gray, interleaver};
-use refusal::{Refusal, checks};
+use refusal::{Reason, Refusal, checks};
 
 // What each of the sums equals, or the refusal.
 #[derive(Clone, Copy)]
@@ -25,7 +25,7 @@ pub enum Totalled {
 // The answer, and for each of the mode's characters the sum of its 64 squared correlations; the rest of the eight are 0, and all on a refusal.
 #[derive(Clone, Copy)]
 pub struct Energies {
-    pub answer: Totalled,
+    pub answer: Result<u32, Refusal>,
     pub sums: [u32; 8],
 }
 
@@ -56,28 +56,28 @@ fn of_heard(greatest: u8, mode: u32, tones: &[u16], weights: &[u8]) -> Energies
     ensures { result ≡ heard_energies greatest mode tones.now weights.now }
 {
     if !checks::is_mode(mode) {
-        return refused(refusal::MODE, 0);
+        return refused(Reason::Mode, 0);
     }
     if tones.len() != 64 {
-        return refused(refusal::TONE_COUNT, 0);
+        return refused(Reason::ToneCount, 0);
     }
     if weights.len() != 64 {
-        return refused(refusal::TONE_COUNT, 0);
+        return refused(Reason::ToneCount, 0);
     }
     let range = tone_range::check(checks::tone_count(mode), tones);
     if range.bad < 64 {
-        return refused(refusal::TONE, range.bad);
+        return refused(Reason::Tone, range.bad);
     }
     let bad_weight = weight_range::first_bad_weight(greatest, weights);
     if bad_weight < 64 {
-        return refused(refusal::WEIGHT, bad_weight);
+        return refused(Reason::Weight, bad_weight);
     }
     let heard = hear(tones, weights);
     let symbols = heard.symbols;
     let counting = heard.weights;
     let values = interleaver::values(mode);
     Energies {
-        answer: Totalled::Total(total(&counting)),
+        answer: Ok(total(&counting)),
         sums: characters::energies(mode, &values, &symbols, &counting),
     }
 }
@@ -86,7 +86,7 @@ fn refused(number: u8, place: usize) -> Energies
     ensures { result ≡ refused number place }
 {
     Energies {
-        answer: Totalled::Refused(Refusal::at(number, place)),
+        answer: Err(Refusal::at(number, place)),
         sums: [0; 8],
     }
 }

@@ -23,9 +23,9 @@ use Rattle.weight_range.specs.Range.{first_bad_weight}
 use Rattle.block_decoder.specs.Decoding.{heard_symbol, symbols_of, count_of, count_in}
 use Rattle.block_decoder.proofs.Counts.{symbol_heard, count_missing, count_present}
 use Rattle.energy.specs.Energies.{energy_at, squared_weight, total_of, refused, summed, heard_energies}
-use Rattle.energy.specs.declared.Totalled.TheVariants.{Total}
 use Rattle.energy.specs.declared.Energies.{Energies}
 use Rattle.energy_laws.specs.Laws.{Energy}
+use Rattle.std.proofs.Common.{Ok}
 
 -- ---- one character
 
@@ -58,17 +58,17 @@ module _ (b : ℕ) (tones weights : List ℕ) (q : ℕ) where
 -- ---- the answers
 
 -- a total comes of the second of two answers, if the first is a refusal
-passes : (t : Bool) (number place n : ℕ) (e : Energies) → (cond t (refused number place) e).answer ≡ Total n
-    → (cond t (refused number place) e ≡ e) × (e.answer ≡ Total n)
+passes : (t : Bool) (number place n : ℕ) (e : Energies) → (cond t (refused number place) e).answer ≡ Ok n
+    → (cond t (refused number place) e ≡ e) × (e.answer ≡ Ok n)
 unfolding refused
 passes true number place n e h = let z : ◌≡◌ {A = ℕ} 0 1 = cc in absurd (omega arith)
 passes false number place n e h = (refl, h)
 
-same_total : {m n : ℕ} → Total m ≡ Total n → m ≡ n
+same_total : {m n : ℕ} → Ok m ≡ Ok n → m ≡ n
 same_total e = cc
 
 module _ (N b : ℕ) (tones weights : List ℕ) (n : ℕ) where
-  total_summed : (heard_energies N b tones weights).answer ≡ Total n → (heard_energies N b tones weights ≡ summed b tones weights) × (total_of tones weights ≡ n)
+  total_summed : (heard_energies N b tones weights).answer ≡ Ok n → (heard_energies N b tones weights ≡ summed b tones weights) × (total_of tones weights ≡ n)
   unfolding heard_energies summed
   total_summed e =
       let p1 = passes (not (is_mode b)) 1 0 n _ e in
@@ -78,7 +78,7 @@ module _ (N b : ℕ) (tones weights : List ℕ) (n : ℕ) where
       let p5 = passes (ltb (first_bad_weight N weights) 64) 14 (first_bad_weight N weights) n _ p4.1 in
       (p1.0 ∙ p2.0 ∙ p3.0 ∙ p4.0 ∙ p5.0, same_total p5.1)
 
-  told : (heard_energies N b tones weights).answer ≡ Total n → (q : ℕ) → q < b → num (heard_energies N b tones weights).sums q ≡ n
+  told : (heard_energies N b tones weights).answer ≡ Ok n → (q : ℕ) → q < b → num (heard_energies N b tones weights).sums q ≡ n
   unfolding summed
   told e q l =
       let s = total_summed e in

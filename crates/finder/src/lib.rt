@@ -8,7 +8,7 @@ ghost use Rattle.finder.specs.Finding.{found_start, find_block, found_into};
 ghost use Rattle.finder.specs.Stretch.{PartOf, InRun, Finds};
 
 use decision::{Character, NONE};
-use refusal::{Refusal, checks};
+use refusal::{Reason, Refusal, checks};
 use search::LONGEST_RUN;
 
 // The start of the block found, or the refusal.
@@ -21,7 +21,7 @@ pub enum Finding {
 // The answer, and the decisions on the characters of the block found; all are NONE on a refusal.
 #[derive(Clone, Copy)]
 pub struct BlockFound {
-    pub answer: Finding,
+    pub answer: Result<usize, Refusal>,
     pub characters: [Character; 8],
 }
 
@@ -48,13 +48,13 @@ pub fn find(mode: u32, least_lead: u32, run: &[u16], codes: &mut [u8]) -> BlockF
 {
     let answer = locate(mode, least_lead, run, codes.len());
     match answer {
-        Finding::Start(start) => {
+        Ok(start) => {
             let heard = &run[start..start + 64];
             let decoded = block_decoder::decode_block(mode, least_lead, heard, codes);
             let characters = decoded.characters;
             BlockFound { answer, characters }
         }
-        Finding::Refused(_) => BlockFound {
+        Err(_) => BlockFound {
             answer,
             characters: [NONE; 8],
         },
@@ -62,30 +62,30 @@ pub fn find(mode: u32, least_lead: u32, run: &[u16], codes: &mut [u8]) -> BlockF
 }
 
 // Where the block is, for an output of room codes.
-fn locate(mode: u32, least_lead: u32, run: &[u16], room: usize) -> Finding
+fn locate(mode: u32, least_lead: u32, run: &[u16], room: usize) -> Result<usize, Refusal>
     ensures { result ≡ found_start mode least_lead run.now room }
 {
     if !checks::is_mode(mode) {
-        return Finding::Refused(Refusal::at(refusal::MODE, 0));
+        return Err(Refusal::at(Reason::Mode, 0));
     }
     if !checks::is_lead(least_lead) {
-        return Finding::Refused(Refusal::at(refusal::LEAST_LEAD, 0));
+        return Err(Refusal::at(Reason::LeastLead, 0));
     }
     if !is_run(run.len()) {
-        return Finding::Refused(Refusal::at(refusal::TONE_COUNT, 0));
+        return Err(Refusal::at(Reason::ToneCount, 0));
     }
     if room < mode as usize {
-        return Finding::Refused(Refusal::at(refusal::ROOM, 0));
+        return Err(Refusal::at(Reason::Room, 0));
     }
     let range = tone_range::check(checks::tone_count(mode), run);
     if range.bad < run.len() {
-        return Finding::Refused(Refusal::at(refusal::TONE, range.bad));
+        return Err(Refusal::at(Reason::Tone, range.bad));
     }
     let start = search::first_accepted(mode, least_lead, run);
     if start < run.len() - 63 {
-        return Finding::Start(start);
+        return Ok(start);
     }
-    Finding::Refused(Refusal::at(refusal::NOT_FOUND, 0))
+    Err(Refusal::at(Reason::NotFound, 0))
 }
 
 fn is_run(count: usize) -> bool
@@ -101,7 +101,7 @@ fn part_found<'a>(run: &'a [u16], block: BlockFound) -> &'a [u16]
 {
     let answer = block.answer;
     match answer {
-        Finding::Start(start) => &run[start..start + 64],
-        Finding::Refused(_) => &run[0..0],
+        Ok(start) => &run[start..start + 64],
+        Err(_) => &run[0..0],
     }
 }

@@ -11,12 +11,12 @@ use Rattle.block_decoder.specs.Decoding.{decode_block, decoded_into}
 use Rattle.block_decoder.proofs.Clarity.{text_refused}
 use Rattle.search.specs.Starts.{stretch_at}
 use Rattle.finder.specs.Finding.{find_block, found_into}
-use Rattle.finder.specs.declared.Finding.TheVariants.{Start}
 use Rattle.finder.proofs.Starts.{stretch_tones}
 use Rattle.demands.specs.Demand.{missing_in, replaced_in, Covered, Gives, RefusesAsUnclear}
 use Rattle.demands.proofs.Demands.{demand3}
 use Rattle.finder_laws.specs.Laws.{RunCovered, FoundBy, SentBlock}
 use Rattle.finder_laws.proofs.FirstBlocks.{found_by, first_block}
+use Rattle.std.proofs.Common.{Ok}
 
 module _ (b m : ℕ) (text run codes : List ℕ) (s : ℕ) (c : RunCovered b m text run codes) (inside : s + 64 ≤ length run) where
   abbrev heard : List ℕ
@@ -52,7 +52,7 @@ module _ (b m : ℕ) (text run codes : List ℕ) (s : ℕ) (c : RunCovered b m t
   found : GivesThere → FoundBy b m run codes s
   found g = found_by b m run codes (record { settings = c.settings; count = c.count; fits = c.room }) c.tones s inside g.accepted
 
-  own_text : 2 * u + 4 * r < 64 + m → (find_block b m run (length codes)).answer ≡ Start s → found_into b m run codes ≡ over text codes
+  own_text : 2 * u + 4 * r < 64 + m → (find_block b m run (length codes)).answer ≡ Ok s → found_into b m run codes ≡ over text codes
   own_text h e =
       let first = first_block.found b m run codes s e in
       ⊎_elim

@@ -13,13 +13,14 @@ use Rattle.report.specs.Output.{refused_text, unreadable_text}
 use Rattle.block_report.specs.Lines.{block_text}
 use Rattle.stages.specs.Stages.{hearing, stops}
 use Rattle.judge.specs.Judged.{checked_said, settings_said, decoded_said, block_said, judged, closed, goes_on}
+use Rattle.refusal.specs.declared.Reason.{Reason}
 
 module _ (b m : ℕ) where
-  pub says_mode : is_mode b ≡ false → checked_said b m ≡ stops (refused_text (refused_at 1 0))
+  pub says_mode : is_mode b ≡ false → checked_said b m ≡ stops (refused_text (refused_at Reason.Mode 0))
   unfolding checked_said
   says_mode e = simp e
 
-  pub says_lead : is_mode b ≡ true → is_lead m ≡ false → checked_said b m ≡ stops (refused_text (refused_at 2 0))
+  pub says_lead : is_mode b ≡ true → is_lead m ≡ false → checked_said b m ≡ stops (refused_text (refused_at Reason.LeastLead 0))
   unfolding checked_said
   says_lead e f = simp (e, f)
 

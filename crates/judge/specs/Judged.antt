@@ -1,13 +1,11 @@
 -- A line that was read to its end: what is printed of it, and how the listing goes on.
-use Rattle.std.specs.Prelude.{ℕ, ◌+◌, ◌%◌, ◌^◌, Bool, true, cond, not, ◌&&◌, List, [], take, ◌==◌}
+use Rattle.std.specs.Prelude.{ℕ, ◌+◌, ◌%◌, ◌^◌, Bool, true, cond, not, ◌&&◌, List, [], take, ◌==◌, Ok, Err}
 use Rattle.lists.specs.Lists.{num}
 use Rattle.reader.specs.declared.Line.{Line}
 use Rattle.reader.specs.Reader.{is_read, line_end, end_tones}
 use Rattle.refusal.specs.Checks.{is_mode, is_lead}
-use Rattle.refusal.specs.Refused.{refused_at}
+use Rattle.refusal.specs.Refused.{Answered, refused_at}
 use Rattle.block_decoder.specs.Decoding.{decode_block}
-use Rattle.block_decoder.specs.declared.Decoded.{Decoded}
-use Rattle.block_decoder.specs.declared.Decoded.TheVariants.{Text, Refused}
 use Rattle.block_decoder.specs.declared.BlockDecoded.{BlockDecoded}
 use Rattle.report.specs.Output.{refused_text, unreadable_text}
 use Rattle.block_report.specs.Lines.{block_text}
@@ -15,12 +13,13 @@ use Rattle.stages.specs.declared.Stage.{Stage}
 use Rattle.stages.specs.declared.Stage.TheVariants.{Settings, Blocks, Stopped}
 use Rattle.stages.specs.declared.Listing.{Listing}
 use Rattle.stages.specs.Stages.{Said, hearing, stops}
+use Rattle.refusal.specs.declared.Reason.{Reason}
 
 -- mode and set lead of line 1
 unfoldable pub checked_said : ℕ → ℕ → Said
 checked_said b m =
-    cond (not (is_mode b)) (stops (refused_text (refused_at 1 0)))
-    (cond (not (is_lead m)) (stops (refused_text (refused_at 2 0)))
+    cond (not (is_mode b)) (stops (refused_text (refused_at Reason.Mode 0)))
+    (cond (not (is_lead m)) (stops (refused_text (refused_at Reason.LeastLead 0)))
     (record { text = []; next = hearing b m 0 }))
 
 unfoldable pub settings_said : Line → List ℕ → Said
@@ -28,9 +27,9 @@ settings_said line tones =
     cond (is_read line && line.count == 2) (checked_said (num tones 0) (num tones 1)) (stops (unreadable_text 1))
 
 -- any refusal but 10 stops the listing
-abbrev pub goes_on : Decoded → Bool
-goes_on (Text n) = true
-goes_on (Refused r) = r.number == 10
+abbrev pub goes_on : Answered ℕ → Bool
+goes_on (Ok n) = true
+goes_on (Err r) = r.number == 10
 
 unfoldable pub decoded_said : ℕ → ℕ → ℕ → BlockDecoded → Said
 decoded_said b m k d = cond (goes_on d.answer) (record { text = block_text k d; next = hearing b m ((k + 1) % 2 ^ 64) }) (stops (block_text k d))

@@ -11,9 +11,9 @@ ghost use Rattle.block_decoder.specs.Decoding.{decode_block};
 ghost use Rattle.stages.specs.Stages.{told_in, stops};
 ghost use Rattle.judge.specs.Judged.{checked_said, settings_said, decoded_said, block_said, closed, goes_on};
 
-use block_decoder::{BlockDecoded, Decoded};
+use block_decoder::BlockDecoded;
 use reader::{Line, TONES};
-use refusal::{Refusal, checks};
+use refusal::{Reason, Refusal, checks};
 use stages::{Listing, Progress, Stage};
 
 // The end of a line.
@@ -54,10 +54,10 @@ fn check_settings(mode: u16, least_lead: u16, out: &mut [u8]) -> Progress
     ensures output { out.new ≡ over (fitting (checked_said mode least_lead).text (length out.old)) out.old }
 {
     if !checks::is_mode(mode as u32) {
-        return refuse(refusal::MODE, out);
+        return refuse(Reason::Mode, out);
     }
     if !checks::is_lead(least_lead as u32) {
-        return refuse(refusal::LEAST_LEAD, out);
+        return refuse(Reason::LeastLead, out);
     }
     stages::before_line(Stage::Blocks, mode as u32, least_lead as u32, 0, 0)
 }
@@ -115,11 +115,11 @@ fn take_answer(listing: Listing, decoded: BlockDecoded, out: &mut [u8]) -> Progr
 }
 
 // An unclear block is listed; any other refusal is the end.
-fn goes_on(answer: Decoded) -> bool
+fn goes_on(answer: Result<usize, Refusal>) -> bool
     ensures { result ≡ goes_on answer }
 {
     match answer {
-        Decoded::Text(_) => true,
-        Decoded::Refused(refusal) => refusal.number == refusal::UNCLEAR,
+        Ok(_) => true,
+        Err(refusal) => refusal.number == Reason::Unclear,
     }
 }

@@ -8,7 +8,7 @@ use native.Mathlib.Decide.{ℕ_discrete, dec_lt}
 use native.Mathlib.Omega.{arith}
 use lib.ListN.{length}
 use Rattle.refusal.specs.declared.Refusal.{Refusal}
-use Rattle.refusal.specs.Refused.{refused_at}
+use Rattle.refusal.specs.Refused.{Answered, refused_at}
 use Rattle.refusal.specs.Checks.{is_lead_at, is_mode}
 use Rattle.refusal.proofs.Limits.{within_true}
 use Rattle.decision.specs.declared.Character.{Character}
@@ -17,8 +17,6 @@ use Rattle.tone_range.proofs.Ranges.{in_range_tones}
 use Rattle.weight_range.specs.Range.{HasWeights, first_bad_weight}
 use Rattle.weight_range.proofs.Ranges.{in_range_weights}
 use Rattle.block_decoder.specs.Decoding.{weighted_of, codes_of, first_unclear, padded, refused, heard_block, heard_into, heard_block_into}
-use Rattle.block_decoder.specs.declared.Decoded.{Decoded}
-use Rattle.block_decoder.specs.declared.Decoded.TheVariants.{Text, Refused}
 use Rattle.block_decoder.specs.declared.BlockDecoded.{BlockDecoded}
 use Rattle.block_decoder.proofs.Characters.{characters_length}
 use Rattle.block_decoder.proofs.Clarity.{text_refused, all_clear, clear_lead, clear_told}
@@ -27,13 +25,14 @@ use Rattle.block_decoder.proofs.Answers.{weighed_up}
 use Rattle.demands.specs.Demand.{RefusesAsUnclear}
 use Rattle.demands.proofs.Answers.{refuses}
 use Rattle.lead_laws.specs.Laws.{lower, higher, Stays, BecomesUnclear, Raised, RaisedLead}
+use Rattle.std.proofs.Common.{Ok, Err}
 
 -- characters that are all clear at m' are so at every lower m
 pub clear_below : (m m' : ℕ) → m ≤ m' → (characters : List Character) → length characters ≤ first_unclear m' characters
     → length characters ≤ first_unclear m characters
 clear_below m m' h characters clear = all_clear m characters (λ q l. omega (arith, clear_lead m' characters clear q l))
 
-pub same_number : {number place : ℕ} {r : Refusal} → Refused (refused_at number place) ≡ Refused r → number ≡ r.number
+pub same_number : {number place : ℕ} {r : Refusal} → Err (refused_at number place) ≡ Err r → number ≡ r.number
 same_number e = cc
 
 -- ---- the checks that do not rest on m
@@ -115,8 +114,8 @@ module _ (N b m m' : ℕ) (tones weights out : List ℕ) where
         whole k g = weighed_up N b k tones weights (length out) (r.passed k g) r.has_tones r.has_weights
 
         accepted : (k : ℕ) → is_lead_at N k ≡ true → length characters ≤ first_unclear k characters
-            → heard_block N b k tones weights (length out) ≡ record { answer = Text b; characters = padded characters }
-        accepted k g l = whole k g ∙ ap (λ (d : Decoded). record { answer = d; characters = padded characters }) (clear_told k characters (Text b) l)
+            → heard_block N b k tones weights (length out) ≡ record { answer = Ok b; characters = padded characters }
+        accepted k g l = whole k g ∙ ap (λ (d : Answered ℕ). record { answer = d; characters = padded characters }) (clear_told k characters (Ok b) l)
 
         by : Dec (first_unclear m' characters < b) → Raised N b m m' tones weights out
         by (yes l) = raised_unclear (record {

@@ -1,7 +1,6 @@
 -- The law of raising the set lead: document 02, order 13. It is the promise of the function of the same name in src/laws.rt.
-use Rattle.std.specs.Prelude.{List, ◌⊎◌, ◌≡◌, ℕ, ◌*◌, ◌≤◌, length}
+use Rattle.std.specs.Prelude.{List, ◌⊎◌, ◌≡◌, ℕ, ◌*◌, ◌≤◌, length, Ok}
 use Rattle.block_decoder.specs.Decoding.{heard_block, heard_block_into}
-use Rattle.block_decoder.specs.declared.Decoded.TheVariants.{Text}
 use Rattle.block_decoder.specs.declared.BlockDecoded.{BlockDecoded}
 use Rattle.demands.specs.Demand.{RefusesAsUnclear}
 
@@ -26,7 +25,7 @@ module _ (N b m m' : ℕ) (tones weights out : List ℕ) where
   -- a text at m' is the text at m, and what is unclear at m is unclear at m'
   pub record Raised : Type 0 where
     pub either : Stays ⊎ BecomesUnclear
-    pub same_text : (n : ℕ) → higher.answer ≡ Text n → Stays
+    pub same_text : (n : ℕ) → higher.answer ≡ Ok n → Stays
     pub still_unclear : RefusesAsUnclear b m lower out (heard_block_into N b m tones weights out)
         → RefusesAsUnclear b m' higher out (heard_block_into N b m' tones weights out)
 

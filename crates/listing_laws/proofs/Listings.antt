@@ -32,6 +32,7 @@ use Rattle.listing.proofs.Lines.{line_said, line_tones}
 use Rattle.listing_laws.specs.Printed.{is_piece, together, pieces_said, printed}
 use Rattle.listing_laws.specs.Laws.{Whole, Live, Stops}
 use Rattle.listing_laws.proofs.Pieces.{from_lines, printed_lines, last_ending, at_once, stopped_lines, silent}
+use Rattle.refusal.specs.declared.Reason.{Reason}
 
 -- ---- sizes
 
@@ -122,14 +123,14 @@ unfolding checked_said checked_listed
 checked_listed_lem b m tones ls size few = by (is_mode b) refl (is_lead m) refl
   where
     said : Bool → Bool → Said
-    said t u = cond (not t) (stops (refused_text (refused_at 1 0))) (cond (not u) (stops (refused_text (refused_at 2 0))) (record { text = []; next = hearing b m 0 }))
+    said t u = cond (not t) (stops (refused_text (refused_at Reason.Mode 0))) (cond (not u) (stops (refused_text (refused_at Reason.LeastLead 0))) (record { text = []; next = hearing b m 0 }))
 
     by : (t : Bool) → is_mode b ≡ t → (u : Bool) → is_lead m ≡ u
         → (said t u).text ++ from_lines (said t u).next tones ls
-        ≡ cond (not t) (refused_text (refused_at 1 0)) (cond (not u) (refused_text (refused_at 2 0)) (blocks_listed b m 0 ls))
+        ≡ cond (not t) (refused_text (refused_at Reason.Mode 0)) (cond (not u) (refused_text (refused_at Reason.LeastLead 0)) (blocks_listed b m 0 ls))
     by true e true f = blocks_listed_lem b m e f ls 0 tones size (omega arith)
-    by true e false f = last_text (refused_text (refused_at 2 0)) tones ls
-    by false e u f = last_text (refused_text (refused_at 1 0)) tones ls
+    by true e false f = last_text (refused_text (refused_at Reason.LeastLead 0)) tones ls
+    by false e u f = last_text (refused_text (refused_at Reason.Mode 0)) tones ls
 
 module _ (line tones : List ℕ) (size : length tones ≡ 256) where
   -- two words that were read are the settings

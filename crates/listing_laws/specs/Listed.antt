@@ -9,6 +9,7 @@ use Rattle.block_decoder.specs.declared.BlockDecoded.{BlockDecoded}
 use Rattle.report.specs.Output.{heading, refused_text, unreadable_text, end_text}
 use Rattle.block_report.specs.Lines.{block_text}
 use Rattle.judge.specs.Judged.{goes_on}
+use Rattle.refusal.specs.declared.Reason.{Reason}
 
 -- hearing the tones of a line, with room for any block's codes
 unfoldable pub block_heard : ℕ → ℕ → List ℕ → BlockDecoded
@@ -24,8 +25,8 @@ blocks_listed b m k (line ∷ rest) =
 -- mode and set lead are checked even if no block follows
 unfoldable pub checked_listed : ℕ → ℕ → List (List ℕ) → List ℕ
 checked_listed b m rest =
-    cond (not (is_mode b)) (refused_text (refused_at 1 0))
-    (cond (not (is_lead m)) (refused_text (refused_at 2 0))
+    cond (not (is_mode b)) (refused_text (refused_at Reason.Mode 0))
+    (cond (not (is_lead m)) (refused_text (refused_at Reason.LeastLead 0))
     (blocks_listed b m 0 rest))
 
 -- an empty input is unreadable at line 1

@@ -13,14 +13,12 @@ use Rattle.lists.specs.Lists.{over}
 use Rattle.lists.proofs.Fronts.{over_whole, over_fits, take_over, over_part}
 use Rattle.lists.proofs.Joins.{joined_more}
 use Rattle.lists.proofs.Places.{first_at}
-use Rattle.refusal.specs.Refused.{unclear_at}
+use Rattle.refusal.specs.Refused.{Answered, unclear_at}
 use Rattle.refusal.specs.Checks.{IsSet}
 use Rattle.refusal.specs.declared.Refusal.{Refusal}
 use Rattle.decision.specs.declared.Character.{Character}
 use Rattle.tone_range.specs.Range.{HasTones}
 use Rattle.block_decoder.specs.Decoding.{plain, characters_of, codes_of, lead_in, first_unclear, unless_unclear, decode_block, decoded_into}
-use Rattle.block_decoder.specs.declared.Decoded.{Decoded}
-use Rattle.block_decoder.specs.declared.Decoded.TheVariants.{Text, Refused}
 use Rattle.block_decoder.specs.declared.BlockDecoded.{BlockDecoded}
 use Rattle.block_decoder.proofs.Characters.{characters_length, codes_length}
 use Rattle.block_decoder.proofs.Clarity.{text_refused, unclear_is, all_clear, clear_lead, unclear_told, clear_told}
@@ -30,6 +28,7 @@ use Rattle.message_encoder.specs.Blocks.{block_at}
 use Rattle.message_encoder.proofs.Counts.{next_place, place_room}
 use Rattle.message_decoder.specs.Decoding.{heard_characters}
 use Rattle.message_decoder.proofs.HeardBlocks.{heard_count, heard_before, heard_at, heard_codes, heard_codes_length}
+use Rattle.std.proofs.Common.{Ok, Err}
 
 -- ---- the whole text, by what is known of its blocks
 
@@ -38,7 +37,7 @@ module _ (b m : ℕ) (tones : List ℕ) where
   abbrev pub Clear : ℕ → Type 0
   Clear k = (i : ℕ) → i < k * b → m ≤ lead_in (heard_characters b tones k) i
 
-  pub clear_heard : (n : ℕ) (clear : Decoded) → Clear n → unless_unclear m (heard_characters b tones n) clear ≡ clear
+  pub clear_heard : (n : ℕ) (clear : Answered ℕ) → Clear n → unless_unclear m (heard_characters b tones n) clear ≡ clear
   clear_heard n clear h =
       clear_told m (heard_characters b tones n) clear (all_clear m (heard_characters b tones n) (λ i l. h i (omega (arith, heard_count b tones n))))
 
@@ -53,8 +52,8 @@ module _ (b m : ℕ) (tones : List ℕ) (k n : ℕ) (inside : k < n) where
   lead_before before i h = omega (arith, ap (λ (c : Character). c.lead) (heard_before b tones n k i (omega arith) h), before i h)
 
   -- the lowest unclear character of the text is that of the first block with one
-  unclear_here : (clear : Decoded) → Clear b m tones k → first_unclear m characters < b
-      → unless_unclear m (heard_characters b tones n) clear ≡ Refused (unclear_at (k * b + first_unclear m characters) (lead_in characters (first_unclear m characters)))
+  unclear_here : (clear : Answered ℕ) → Clear b m tones k → first_unclear m characters < b
+      → unless_unclear m (heard_characters b tones n) clear ≡ Err (unclear_at (k * b + first_unclear m characters) (lead_in characters (first_unclear m characters)))
   unfolding first_unclear
   unclear_here clear before h =
       let p : ℕ = first_unclear m characters in
@@ -66,8 +65,8 @@ module _ (b m : ℕ) (tones : List ℕ) (k n : ℕ) (inside : k < n) where
       (lt-ltb (lead_in (heard_characters b tones n) (k * b + p)) m (rw (lead_at p h) unclear))
       (λ i l. le-ltb (lead_in (heard_characters b tones n) i) m (earlier i l (dec_lt i (k * b)))) in
       unclear_told m (heard_characters b tones n) clear (omega (arith, place, place_room k n b inside))
-      ∙ ap (λ (i : ℕ). Refused (unclear_at i (lead_in (heard_characters b tones n) i))) place
-      ∙ ap (λ (l : ℕ). Refused (unclear_at (k * b + p) l)) (lead_at p h)
+      ∙ ap (λ (i : ℕ). Err (unclear_at i (lead_in (heard_characters b tones n) i))) place
+      ∙ ap (λ (l : ℕ). Err (unclear_at (k * b + p) l)) (lead_at p h)
     where
       earlier : (i : ℕ) → i < k * b + first_unclear m characters → Dec (i < k * b) → m ≤ lead_in (heard_characters b tones n) i
       earlier i l (yes g) = lead_before before i g
@@ -80,36 +79,36 @@ module _ (b m : ℕ) (tones : List ℕ) (k n : ℕ) (inside : k < n) where
 
 -- ---- block k
 
-same_refusal : {r s : Refusal} → Refused r ≡ Refused s → r ≡ s
+same_refusal : {r s : Refusal} → Err r ≡ Err s → r ≡ s
 same_refusal e = cc
 
 module _ (b m : ℕ) (tones : List ℕ) (k : ℕ) (part : List ℕ) (s : IsSet b m) (w : HasTones (2 ^ b) (block_at tones k)) (size : length part ≡ b) (before : Clear b m tones k) where
   abbrev block : List Character
   block = characters_of b (block_at tones k)
 
-  answer : (decode_block b m (block_at tones k) (length part)).answer ≡ unless_unclear m block (Text b)
+  answer : (decode_block b m (block_at tones k) (length part)).answer ≡ unless_unclear m block (Ok b)
   answer = ap (λ (d : BlockDecoded). d.answer) (decided b m (block_at tones k) (length part) s w (omega arith))
 
   -- a refusal is that of the block's lowest unclear character
-  unclear : (r : Refusal) → (decode_block b m (block_at tones k) (length part)).answer ≡ Refused r
+  unclear : (r : Refusal) → (decode_block b m (block_at tones k) (length part)).answer ≡ Err r
       → (first_unclear m block < b) × (r ≡ unclear_at (first_unclear m block) (lead_in block (first_unclear m block)))
   unclear r e = by (dec_lt (first_unclear m block) b)
     where
       by : Dec (first_unclear m block < b) → (first_unclear m block < b) × (r ≡ unclear_at (first_unclear m block) (lead_in block (first_unclear m block)))
-      by (yes l) = (l, same_refusal (sym e ∙ answer ∙ unclear_told m block (Text b) (omega (arith, characters_length b (block_at tones k) plain))))
-      by (no l) = absurd (text_refused (sym (answer ∙ clear_told m block (Text b) (omega (arith, characters_length b (block_at tones k) plain))) ∙ e))
+      by (yes l) = (l, same_refusal (sym e ∙ answer ∙ unclear_told m block (Ok b) (omega (arith, characters_length b (block_at tones k) plain))))
+      by (no l) = absurd (text_refused (sym (answer ∙ clear_told m block (Ok b) (omega (arith, characters_length b (block_at tones k) plain))) ∙ e))
 
-  pub refused_inside : (r : Refusal) → (decode_block b m (block_at tones k) (length part)).answer ≡ Refused r → r.place < b
+  pub refused_inside : (r : Refusal) → (decode_block b m (block_at tones k) (length part)).answer ≡ Err r → r.place < b
   refused_inside r e = let u = unclear r e in rw u.1 u.0
 
   -- the same, at its place in the text
-  pub block_refused : (n : ℕ) (clear : Decoded) → k < n → (r : Refusal) → (decode_block b m (block_at tones k) (length part)).answer ≡ Refused r
-      → unless_unclear m (heard_characters b tones n) clear ≡ Refused (unclear_at (k * b + r.place) r.lead)
+  pub block_refused : (n : ℕ) (clear : Answered ℕ) → k < n → (r : Refusal) → (decode_block b m (block_at tones k) (length part)).answer ≡ Err r
+      → unless_unclear m (heard_characters b tones n) clear ≡ Err (unclear_at (k * b + r.place) r.lead)
   block_refused n clear inside r e =
       let u = unclear r e in
-      unclear_here b m tones k n inside clear before u.0 ∙ ap (λ (x : Refusal). Refused (unclear_at (k * b + x.place) x.lead)) (sym u.1)
+      unclear_here b m tones k n inside clear before u.0 ∙ ap (λ (x : Refusal). Err (unclear_at (k * b + x.place) x.lead)) (sym u.1)
 
-  module _ (count : ℕ) (e : (decode_block b m (block_at tones k) (length part)).answer ≡ Text count) where
+  module _ (count : ℕ) (e : (decode_block b m (block_at tones k) (length part)).answer ≡ Ok count) where
     pub block_clear : Clear b m tones (k + 1)
     block_clear i h = by (dec_lt i (k * b))
       where

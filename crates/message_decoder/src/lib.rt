@@ -6,17 +6,15 @@ ghost use Rattle.lists.specs.Lists.{over};
 ghost use Rattle.refusal.specs.Checks.{is_mode, is_lead};
 ghost use Rattle.tone_range.specs.Range.{first_bad_tone};
 ghost use Rattle.block_decoder.specs.Decoding.{codes_of, unless_unclear, heard_into};
-ghost use Rattle.block_decoder.specs.declared.Decoded.TheVariants.{Text};
 ghost use Rattle.delivery.specs.Delivery.{delivery};
 ghost use Rattle.message_encoder.specs.Blocks.{longest, is_whole};
 ghost use Rattle.message_decoder.specs.Decoding.{heard_characters, decode_message, message_decoded_into};
 
-use block_decoder::Decoded;
 use message_encoder::LONGEST;
-use refusal::{Refusal, checks};
+use refusal::{Reason, Refusal, checks};
 
 // Decodes blocks of 64 tones to their text, at the front of text. Every block is decided before anything is written.
-pub fn decode_message(mode: u32, least_lead: u32, tones: &[u16], text: &mut [u8]) -> Decoded
+pub fn decode_message(mode: u32, least_lead: u32, tones: &[u16], text: &mut [u8]) -> Result<usize, Refusal>
     ensures answer { result ≡ decode_message longest mode least_lead tones.now (length text.old) }
     ensures output { text.new ≡ message_decoded_into longest mode least_lead tones.now text.old }
 {
@@ -34,35 +32,35 @@ fn decode_within(
     tones: &[u16],
     codes: &mut [u8],
     text: &mut [u8],
-) -> Decoded
+) -> Result<usize, Refusal>
     requires limit { limit ≤ longest }
     requires room { limit + 7 ≤ length codes.old }
     ensures answer { result ≡ decode_message limit mode least_lead tones.now (length text.old) }
     ensures output { text.new ≡ message_decoded_into limit mode least_lead tones.now text.old }
 {
     if !checks::is_mode(mode) {
-        return Decoded::Refused(Refusal::at(refusal::MODE, 0));
+        return Err(Refusal::at(Reason::Mode, 0));
     }
     if !checks::is_lead(least_lead) {
-        return Decoded::Refused(Refusal::at(refusal::LEAST_LEAD, 0));
+        return Err(Refusal::at(Reason::LeastLead, 0));
     }
     let b = mode as usize;
     if !is_whole(limit, b, tones.len()) {
-        return Decoded::Refused(Refusal::at(refusal::TONE_COUNT, 0));
+        return Err(Refusal::at(Reason::ToneCount, 0));
     }
     let count = tones.len() / 64;
     let total = count * b;
     if text.len() < total {
-        return Decoded::Refused(Refusal::at(refusal::ROOM, 0));
+        return Err(Refusal::at(Reason::Room, 0));
     }
     let range = tone_range::check(checks::tone_count(mode), tones);
     if range.bad < tones.len() {
-        return Decoded::Refused(Refusal::at(refusal::TONE, range.bad));
+        return Err(Refusal::at(Reason::Tone, range.bad));
     }
     let heard = collect(mode, least_lead, count, tones, codes);
     match heard {
-        Decoded::Text(_) => deliver(limit, b, &codes[0..total], text),
-        Decoded::Refused(_) => heard,
+        Ok(_) => deliver(limit, b, &codes[0..total], text),
+        Err(_) => heard,
     }
 }
 
@@ -75,7 +73,7 @@ fn is_whole(limit: usize, mode: usize, count: usize) -> bool
 }
 
 // Decides the blocks, one after the other. Their codes go over the front of codes, which a refusal leaves written in part.
-fn collect(mode: u32, least_lead: u32, count: usize, tones: &[u16], codes: &mut [u8]) -> Decoded
+fn collect(mode: u32, least_lead: u32, count: usize, tones: &[u16], codes: &mut [u8]) -> Result<usize, Refusal>
     requires settings { (is_mode mode ≡ true) × (is_lead least_lead ≡ true) }
     requires whole { length tones.now ≡ 64 * count }
     requires range { length tones.now ≤ first_bad_tone (2 ^ mode) tones.now }
@@ -94,15 +92,15 @@ fn collect(mode: u32, least_lead: u32, count: usize, tones: &[u16], codes: &mut 
             &mut codes[at..at + b],
         );
         match answer {
-            Decoded::Text(_) => {}
-            Decoded::Refused(unclear) => {
-                return Decoded::Refused(Refusal::unclear(at + unclear.place, unclear.lead));
+            Ok(_) => {}
+            Err(unclear) => {
+                return Err(Refusal::unclear(at + unclear.place, unclear.lead));
             }
         }
         at += b;
         k += 1;
     }
-    Decoded::Text(at)
+    Ok(at)
 }
 
 // The first n codes, over the front of text.
@@ -118,17 +116,17 @@ fn put_text(n: usize, codes: &[u8], text: &mut [u8])
 }
 
 // Judges the codes of accepted blocks and writes their text.
-fn deliver(limit: usize, mode: usize, codes: &[u8], text: &mut [u8]) -> Decoded
+fn deliver(limit: usize, mode: usize, codes: &[u8], text: &mut [u8]) -> Result<usize, Refusal>
     requires { length codes.now ≤ length text.old }
     ensures answer { result ≡ delivery limit mode codes.now }
     ensures output { text.new ≡ heard_into (delivery limit mode codes.now) codes.now text.old }
 {
     let answer = delivery::judge(limit, mode, codes);
     match answer {
-        Decoded::Text(n) => {
+        Ok(n) => {
             put_text(n, codes, text);
             answer
         }
-        Decoded::Refused(_) => answer,
+        Err(_) => answer,
     }
 }

@@ -15,9 +15,7 @@ use Rattle.refusal.proofs.Limits.{mode_range}
 use Rattle.decision.specs.declared.Character.{Character}
 use Rattle.chain.specs.Chain.{tones_of}
 use Rattle.tone_range.specs.Range.{HasTones}
-use Rattle.block_encoder.specs.declared.Encoded.TheVariants.{Tones}
 use Rattle.block_decoder.specs.Decoding.{plain, character_at, codes_of}
-use Rattle.block_decoder.specs.declared.Decoded.TheVariants.{Text}
 use Rattle.block_decoder.proofs.Characters.{character_at_lem, codes_length}
 use Rattle.demands.specs.Laws.{AreClean}
 use Rattle.demands.proofs.CleanTones.{decided_text, clean_text, clean_tones}
@@ -36,6 +34,7 @@ use Rattle.message_decoder.proofs.ToneRanges.{block_has_tones}
 use Rattle.message_decoder.proofs.HeardBlocks.{heard_count, heard_at, heard_codes}
 use Rattle.message_demands.specs.Laws.{IsMessage, text_heard, CleanBack, Clean}
 use Rattle.message_demands.proofs.SentMessages.{sendable}
+use Rattle.std.proofs.Common.{Ok}
 
 -- the codes decided in block k
 abbrev decided_in : ℕ → List ℕ → ℕ → List ℕ
@@ -74,7 +73,7 @@ above_zero (suc n) h = omega arith
 
 -- ---- the tones accepted
 
-module _ (limit b m n : ℕ) (tones out : List ℕ) (answer : decode_message limit b m tones (length out) ≡ Text n)
+module _ (limit b m n : ℕ) (tones out : List ℕ) (answer : decode_message limit b m tones (length out) ≡ Ok n)
     (clean : AreClean (length (message_characters b tones)) (message_characters b tones)) where
   abbrev count : ℕ
   count = length tones / 64
@@ -151,10 +150,10 @@ module _ (limit b m n : ℕ) (tones out : List ℕ) (answer : decode_message lim
         ∙ ap (λ (x : List ℕ). take n (over (take n x) out)) codes_are
         ∙ take_over text out n text_length
 
-    accepted : encode_message limit b text (length sent) ≡ Tones (length tones)
+    accepted : encode_message limit b text (length sent) ≡ Ok (length tones)
     accepted =
         let count_sent_lem : 64 * block_count b (length text) ≡ length tones = omega (arith, blocks, whole) in
-        encodes limit b text (length sent) (sendable limit text message b h.hearable.passed.mode) (omega arith) ∙ ap Tones count_sent_lem
+        encodes limit b text (length sent) (sendable limit text message b h.hearable.passed.mode) (omega arith) ∙ ap Ok count_sent_lem
 
     clean_back : CleanBack limit b m n tones out sent
     clean_back = record {

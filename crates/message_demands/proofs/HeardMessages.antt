@@ -11,7 +11,7 @@ use lib.ListN.{length, take}
 use lib.Seq.{length-take-le}
 use Rattle.lists.specs.Lists.{joined, num}
 use Rattle.lists.proofs.Joins.{joined_ext, joined_each}
-use Rattle.refusal.specs.Refused.{unclear_at}
+use Rattle.refusal.specs.Refused.{Answered, unclear_at}
 use Rattle.refusal.proofs.Limits.{mode_range}
 use Rattle.decision.specs.Decision.{none}
 use Rattle.decision.specs.declared.Character.{Character}
@@ -19,8 +19,6 @@ use Rattle.weight_range.proofs.Ranges.{has_throughout}
 use Rattle.tone_range.specs.Range.{HasTones}
 use Rattle.tone_range.proofs.Ranges.{good_tone, good_tones}
 use Rattle.block_decoder.specs.Decoding.{plain, characters_of, codes_of, lead_in, first_unclear, decode_block, heard_into}
-use Rattle.block_decoder.specs.declared.Decoded.{Decoded}
-use Rattle.block_decoder.specs.declared.Decoded.TheVariants.{Text, Refused}
 use Rattle.block_decoder.specs.declared.BlockDecoded.{BlockDecoded}
 use Rattle.block_decoder.proofs.Characters.{characters_length, character_at_lem}
 use Rattle.block_decoder.proofs.Clarity.{unclear_is, clear_lead, unclear_told}
@@ -35,6 +33,7 @@ use Rattle.message_decoder.proofs.Hearing as hearing
 use Rattle.message_decoder.proofs.HeardBlocks.{message_count, heard_at, heard_codes}
 use Rattle.message_decoder.proofs.ToneRanges.{block_has_tones}
 use Rattle.message_demands.specs.Laws.{BreaksNoLimit, block_heard, block_text, lead_heard, ByBlocks, BlocksHeard, RefusesAsUnclear, Precisely, Clear, OddLeads}
+use Rattle.std.proofs.Common.{Ok, Err}
 
 module _ (limit b m : ℕ) (tones out own : List ℕ) (ok : BreaksNoLimit limit b m tones out) (h : b ≤ length own) where
   abbrev count : ℕ
@@ -45,7 +44,7 @@ module _ (limit b m : ℕ) (tones out own : List ℕ) (ok : BreaksNoLimit limit 
 
   -- every block is accepted
   abbrev AllClear : ℕ → Type 0
-  AllClear n = (k : ℕ) → k < n → (block_heard b m tones own k).answer ≡ Text b
+  AllClear n = (k : ℕ) → k < n → (block_heard b m tones own k).answer ≡ Ok b
 
   pub hearable : Hearable limit b m tones (length out)
   hearable = record {
@@ -67,7 +66,7 @@ module _ (limit b m : ℕ) (tones out own : List ℕ) (ok : BreaksNoLimit limit 
       decided b m (block_at tones k) (length (take b own)) ok.settings (in_range k l) (omega (arith, own_size))
       ∙ sym (decided b m (block_at tones k) (length own) ok.settings (in_range k l) h)
 
-  same_answer : (k : ℕ) (d : Decoded) → k < count → (block_heard b m tones own k).answer ≡ d
+  same_answer : (k : ℕ) (d : Answered ℕ) → k < count → (block_heard b m tones own k).answer ≡ d
       → (decode_block b m (block_at tones k) (length (take b own))).answer ≡ d
   same_answer k d l e = ap (λ (x : BlockDecoded). x.answer) (same_heard k l) ∙ e
 
@@ -76,7 +75,7 @@ module _ (limit b m : ℕ) (tones out own : List ℕ) (ok : BreaksNoLimit limit 
   clear_below (suc k) l f =
       rw add-one at
       (hearing.block_clear b m tones k (take b own) ok.settings (in_range k l) own_size (clear_below k (omega arith) (λ j g. f j (omega arith))) b
-      (same_answer k (Text b) l (f k (omega arith))))
+      (same_answer k (Ok b) l (f k (omega arith))))
 
   codes_heard : AllClear count → codes_of characters ≡ joined (block_text b m tones own) count
   unfolding message_characters
@@ -97,7 +96,7 @@ module _ (limit b m : ℕ) (tones out own : List ℕ) (ok : BreaksNoLimit limit 
     unclear = λ k r l before e.
         judges limit b m tones (length out) hearable
         ∙ hearing.block_refused b m tones k (take b own) ok.settings (in_range k l) own_size (clear_below k (omega arith) before) count _ l r
-        (same_answer k (Refused r) l e);
+        (same_answer k (Err r) l e);
     clear = all_clear;
     written = λ f. ap (λ (x : List ℕ). heard_into (decode_message limit b m tones (length out)) x out) (codes_heard f);
   }
@@ -120,10 +119,10 @@ module _ (limit b m : ℕ) (tones out own : List ℕ) (ok : BreaksNoLimit limit 
       let inside : p / b < count = below (p / b) (p % b) (omega arith) in
       let first = unclear_is m characters in
       let lead : lead_heard b m tones own (p / b) (p % b) ≡ lead_in characters p = lead_in_lem (p / b) (p % b) inside place ∙ ap (lead_in characters) (sym split) in
-      let told : decode_message limit b m tones (length out) ≡ Refused (unclear_at (p / b * b + p % b) (lead_heard b m tones own (p / b) (p % b))) =
+      let told : decode_message limit b m tones (length out) ≡ Err (unclear_at (p / b * b + p % b) (lead_heard b m tones own (p / b) (p % b))) =
       judges limit b m tones (length out) hearable
       ∙ unclear_told m characters _ (omega arith)
-      ∙ ap₂ (λ (i n : ℕ). Refused (unclear_at i n)) split (sym lead) in
+      ∙ ap₂ (λ (i n : ℕ). Err (unclear_at i n)) split (sym lead) in
       record {
         block = p / b;
         place = p % b;

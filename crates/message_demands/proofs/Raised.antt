@@ -8,15 +8,13 @@ use native.Mathlib.Decide.{dec_lt}
 use native.Mathlib.Omega.{arith}
 use lib.ListN.{length}
 use Rattle.lists.specs.Lists.{num}
-use Rattle.refusal.specs.Refused.{refused_at}
+use Rattle.refusal.specs.Refused.{Answered, refused_at}
 use Rattle.refusal.specs.Checks.{is_mode, is_lead}
 use Rattle.refusal.proofs.Limits.{within_true}
 use Rattle.decision.specs.declared.Character.{Character}
 use Rattle.tone_range.specs.Range.{first_bad_tone}
 use Rattle.tone_range.proofs.Ranges.{tones_good, tone_good}
 use Rattle.block_decoder.specs.Decoding.{codes_of, lead_in, first_unclear, heard_into}
-use Rattle.block_decoder.specs.declared.Decoded.{Decoded}
-use Rattle.block_decoder.specs.declared.Decoded.TheVariants.{Refused}
 use Rattle.block_decoder.proofs.Clarity.{text_refused, clear_told}
 use Rattle.lead_laws.proofs.Raises.{clear_below, same_number}
 use Rattle.delivery.specs.Delivery.{delivery}
@@ -26,6 +24,7 @@ use Rattle.message_decoder.proofs.DecodeCases.{judges, refuses_mode, refuses_cou
 use Rattle.message_decoder.proofs.HeardBlocks.{message_count}
 use Rattle.message_demands.specs.Laws.{BreaksNoLimit, lead_heard, RefusesAsUnclear, Stays, Raised, RaisedLead}
 use Rattle.message_demands.proofs.HeardMessages.{hearable, lead_in_lem, refuses, clear}
+use Rattle.std.proofs.Common.{Err}
 
 -- ---- the checks that do not rest on m
 
@@ -35,7 +34,7 @@ module _ (limit b : ℕ) (tones out : List ℕ) where
     number : ℕ
     place : ℕ
     not_unclear : number ≢ 10
-    told : (m : ℕ) → is_lead m ≡ true → decode_message limit b m tones (length out) ≡ Refused (refused_at number place)
+    told : (m : ℕ) → is_lead m ≡ true → decode_message limit b m tones (length out) ≡ Err (refused_at number place)
 
   -- all are passed
   abbrev Heard : Type 0
@@ -44,7 +43,7 @@ module _ (limit b : ℕ) (tones out : List ℕ) where
   checked : Unheard ⊎ Heard
   checked = by (is_mode b) refl (is_whole limit b (length tones)) refl (dec_lt (length out) (length tones / 64 * b)) (dec_lt (first_bad_tone (2 ^ b) tones) (length tones))
     where
-      unheard : (number place : ℕ) → number ≢ 10 → ((m : ℕ) → is_lead m ≡ true → decode_message limit b m tones (length out) ≡ Refused (refused_at number place)) → Unheard ⊎ Heard
+      unheard : (number place : ℕ) → number ≢ 10 → ((m : ℕ) → is_lead m ≡ true → decode_message limit b m tones (length out) ≡ Err (refused_at number place)) → Unheard ⊎ Heard
       unheard number place n f = inl (record { number = number; place = place; not_unclear = n; told = f })
 
       by : (s : Bool) → is_mode b ≡ s → (w : Bool) → is_whole limit b (length tones) ≡ w → Dec (length out < length tones / 64 * b)
@@ -66,7 +65,7 @@ module _ (limit b : ℕ) (tones out : List ℕ) where
 module _ (limit b m m' : ℕ) (tones out own : List ℕ) where
   stays : decode_message limit b m' tones (length out) ≡ decode_message limit b m tones (length out) → Stays limit b m m' tones out
   unfolding message_decoded_into
-  stays e = record { answer = e; output = ap (λ (d : Decoded). heard_into d (codes_of (message_characters b tones)) out) e }
+  stays e = record { answer = e; output = ap (λ (d : Answered ℕ). heard_into d (codes_of (message_characters b tones)) out) e }
 
   module _ (f : is_lead m ≡ true) (f' : is_lead m' ≡ true) where
     raised_unheard : Unheard limit b tones out → Raised limit b m m' tones out own

@@ -15,9 +15,7 @@ use Rattle.refusal.proofs.Limits.{mode_range, lead_range}
 use Rattle.decision.specs.Decision.{none}
 use Rattle.decision.specs.declared.Character.{Character}
 use Rattle.block_encoder.specs.Encoding.{on_air, count_sent}
-use Rattle.block_encoder.specs.declared.Encoded.TheVariants.{Tones}
 use Rattle.block_decoder.specs.Decoding.{weighted_of, lead_in, character_at, codes_of, first_unclear, unless_unclear}
-use Rattle.block_decoder.specs.declared.Decoded.TheVariants.{Text}
 use Rattle.block_decoder.proofs.Clarity.{all_clear, clear_told}
 use Rattle.demands.specs.Laws.{undamaged}
 use Rattle.demands.proofs.Demands.{sent_character}
@@ -32,6 +30,7 @@ use Rattle.message_decoder.specs.Decoding.{heard_characters, message_characters,
 use Rattle.message_decoder.proofs.DecodeCases.{Hearable, judges, text_written}
 use Rattle.message_demands.specs.Laws.{IsMessage, message_air, ComesBack, RoundTrip}
 use Rattle.message_demands.proofs.SentMessages.{sent_block, sent_in_range, sendable}
+use Rattle.std.proofs.Common.{Ok}
 
 -- the decision on character i of a text heard as sent
 abbrev heard_as : List ℕ → ℕ → Character
@@ -55,7 +54,7 @@ module _ (limit b m : ℕ) (text : List ℕ) (s : IsSet b m) (message : IsMessag
   low : 1 ≤ b
   low = (mode_range b s.mode).0
 
-  text_found : delivery limit b (tab (num text) (count * b)) ≡ Text (length text)
+  text_found : delivery limit b (tab (num text) (count * b)) ≡ Ok (length text)
   text_found =
       let codes : List ℕ = tab (num text) (count * b) in
       let same : (i : ℕ) → i < count * b → num codes i ≡ num text i = λ i l. tab_at (num text) 0 (count * b) i l in
@@ -73,7 +72,7 @@ module _ (limit b m : ℕ) (text : List ℕ) (s : IsSet b m) (message : IsMessag
       ending zero f = inl refl
       ending (suc n) f = inr (f (omega arith))
 
-  heard_sent : unless_unclear m (tab (heard_as text) (count * b)) (delivery limit b (codes_of (tab (heard_as text) (count * b)))) ≡ Text (length text)
+  heard_sent : unless_unclear m (tab (heard_as text) (count * b)) (delivery limit b (codes_of (tab (heard_as text) (count * b)))) ≡ Ok (length text)
   heard_sent =
       clear_told m (tab (heard_as text) (count * b)) _ (heard_clear text (count * b) m (lead_range m s.lead).1)
       ∙ ap (delivery limit b) (codes_heard text (count * b))
@@ -116,7 +115,7 @@ module _ (limit b m : ℕ) (text : List ℕ) (s : IsSet b m) (message : IsMessag
       }
 
   module _ (tones out : List ℕ) (room_sent : 64 * count ≤ length tones) (room-heard : count * b ≤ length out) where
-    accepted : encode_message limit b text (length tones) ≡ Tones (64 * count)
+    accepted : encode_message limit b text (length tones) ≡ Ok (64 * count)
     accepted = encodes limit b text (length tones) (sendable limit text message b s.mode) room_sent
 
     air_sent : message_air limit b text tones ≡ sent_tones b text count
@@ -126,7 +125,7 @@ module _ (limit b m : ℕ) (text : List ℕ) (s : IsSet b m) (message : IsMessag
         ∙ ap (take (64 * count)) (tones_written limit b text tones accepted)
         ∙ take_over (sent_tones b text count) tones (64 * count) (sent_count b text count)
 
-    answer : decode_message limit b m (message_air limit b text tones) (length out) ≡ Text (length text)
+    answer : decode_message limit b m (message_air limit b text tones) (length out) ≡ Ok (length text)
     answer =
         rw air_sent
         (judges limit b m (sent_tones b text count) (length out) (hearable (length out) room-heard)

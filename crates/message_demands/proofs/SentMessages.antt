@@ -19,7 +19,6 @@ use Rattle.chain.proofs.Tones.{tones_length}
 use Rattle.tone_range.specs.Range.{bad_tone, first_bad_tone}
 use Rattle.tone_range.proofs.Ranges.{tones_in_range, tones_good, good_tones}
 use Rattle.block_encoder.specs.Encoding.{sent_into, count_sent, on_air}
-use Rattle.block_encoder.specs.declared.Encoded.{Encoded}
 use Rattle.demands.specs.Laws.{AreSent}
 use Rattle.demands.proofs.Sent.{nothing_sent, tones_sent}
 use Rattle.demands.proofs.Demands.{sent_tones_lem}
@@ -28,6 +27,7 @@ use Rattle.message_encoder.specs.Encoding.{block_codes, sent_tones, bad_text_cod
 use Rattle.message_encoder.proofs.SentBlocks.{sent_count}
 use Rattle.message_encoder.proofs.EncodeCases.{Sendable, refuses_mode, tones_written}
 use Rattle.message_demands.specs.Laws.{BlockTones, message_air, NoMark, IsMessage}
+use Rattle.refusal.specs.Refused.{Answered}
 
 module _ (b : ℕ) (text : List ℕ) where
   abbrev block_tones : ℕ → List ℕ
@@ -73,7 +73,7 @@ sent_without_mark limit b text tones = by (is_mode b) refl
     count : ℕ
     count = block_count b (length text)
 
-    Sent : Encoded → Type 0
+    Sent : Answered ℕ → Type 0
     Sent e = AreSent b (take (count_sent e) (sent_into e (sent_tones b text count) tones))
 
     by : (t : Bool) → is_mode b ≡ t → Sent (encode_message limit b text (length tones))

@@ -1,14 +1,12 @@
 -- The laws of a message of at most limit codes. Each is the promise of the function of the same name in src/laws.rt.
-use Rattle.std.specs.Prelude.{◌≡◌, List, true, ◌⊎◌, ℕ, ◌+◌, ◌-◌, ◌*◌, ◌/◌, ◌<◌, ◌≤◌, ◌^◌, length, take}
+use Rattle.std.specs.Prelude.{◌≡◌, List, true, ◌⊎◌, ℕ, ◌+◌, ◌-◌, ◌*◌, ◌/◌, ◌<◌, ◌≤◌, ◌^◌, length, take, Ok, Err}
 use Rattle.lists.specs.Lists.{joined, num, over}
 use Rattle.refusal.specs.Checks.{IsSet}
 use Rattle.refusal.specs.Refused.{unclear_at}
 use Rattle.refusal.specs.declared.Refusal.{Refusal}
 use Rattle.chain.specs.Chain.{missing_mark, tones_of}
 use Rattle.block_encoder.specs.Encoding.{on_air}
-use Rattle.block_encoder.specs.declared.Encoded.TheVariants.{Tones}
 use Rattle.block_decoder.specs.Decoding.{lead_in, decode_block, heard_into, decoded_into}
-use Rattle.block_decoder.specs.declared.Decoded.TheVariants.{Text, Refused}
 use Rattle.block_decoder.specs.declared.BlockDecoded.{BlockDecoded}
 use Rattle.demands.specs.Laws.{AreSent, AreClean}
 use Rattle.delivery.specs.Delivery.{delivery}
@@ -20,7 +18,7 @@ use Rattle.message_decoder.specs.Decoding.{message_characters, decode_message, m
 
 -- The encoder's tones for block k are the block's tones for its b codes.
 pub record BlockTones : Type 0 where
-  pub each : (limit b : ℕ) (text tones : List ℕ) (n k : ℕ) → encode_message limit b text (length tones) ≡ Tones n → k < block_count b (length text)
+  pub each : (limit b : ℕ) (text tones : List ℕ) (n k : ℕ) → encode_message limit b text (length tones) ≡ Ok n → k < block_count b (length text)
       → block_at (message_encoded_into limit b text tones) k ≡ tones_of b (block_codes b text k)
 
 -- what goes on the air for a text, by way of an output
@@ -39,8 +37,8 @@ pub record IsMessage (limit : ℕ) (text : List ℕ) : Type 0 where
 
 -- A text encoded and decoded, into outputs long enough and at any m, comes back.
 pub record ComesBack (limit b m : ℕ) (text tones out : List ℕ) : Type 0 where
-  pub sent : encode_message limit b text (length tones) ≡ Tones (64 * block_count b (length text))
-  pub answer : decode_message limit b m (message_air limit b text tones) (length out) ≡ Text (length text)
+  pub sent : encode_message limit b text (length tones) ≡ Ok (64 * block_count b (length text))
+  pub answer : decode_message limit b m (message_air limit b text tones) (length out) ≡ Ok (length text)
   pub written : message_decoded_into limit b m (message_air limit b text tones) out ≡ over text out
 
 pub record RoundTrip : Type 0 where
@@ -56,11 +54,11 @@ text_heard limit b m n tones out = take n (message_decoded_into limit b m tones 
 
 -- Accepted clean tones encode back to themselves.
 pub record CleanBack (limit b m n : ℕ) (tones out sent : List ℕ) : Type 0 where
-  pub answer : encode_message limit b (text_heard limit b m n tones out) (length sent) ≡ Tones (length tones)
+  pub answer : encode_message limit b (text_heard limit b m n tones out) (length sent) ≡ Ok (length tones)
   pub written : message_encoded_into limit b (text_heard limit b m n tones out) sent ≡ over tones sent
 
 pub record Clean : Type 0 where
-  pub back : (limit b m n : ℕ) (tones out sent : List ℕ) → decode_message limit b m tones (length out) ≡ Text n
+  pub back : (limit b m n : ℕ) (tones out sent : List ℕ) → decode_message limit b m tones (length out) ≡ Ok n
       → AreClean (length (message_characters b tones)) (message_characters b tones)
       → length tones ≤ length sent
       → CleanBack limit b m n tones out sent
@@ -88,12 +86,12 @@ lead_heard b m tones own k q = lead_in (block_heard b m tones own k).characters 
 -- after block, what each block writes.
 module _ (limit b m : ℕ) (tones out own : List ℕ) where
   pub record ByBlocks : Type 0 where
-    pub unclear : (k : ℕ) (r : Refusal) → k < length tones / 64 → ((j : ℕ) → j < k → (block_heard b m tones own j).answer ≡ Text b)
-        → (block_heard b m tones own k).answer ≡ Refused r
-        → decode_message limit b m tones (length out) ≡ Refused (unclear_at (k * b + r.place) r.lead)
-    pub clear : ((k : ℕ) → k < length tones / 64 → (block_heard b m tones own k).answer ≡ Text b)
+    pub unclear : (k : ℕ) (r : Refusal) → k < length tones / 64 → ((j : ℕ) → j < k → (block_heard b m tones own j).answer ≡ Ok b)
+        → (block_heard b m tones own k).answer ≡ Err r
+        → decode_message limit b m tones (length out) ≡ Err (unclear_at (k * b + r.place) r.lead)
+    pub clear : ((k : ℕ) → k < length tones / 64 → (block_heard b m tones own k).answer ≡ Ok b)
         → decode_message limit b m tones (length out) ≡ delivery limit b (joined (block_text b m tones own) (length tones / 64))
-    pub written : ((k : ℕ) → k < length tones / 64 → (block_heard b m tones own k).answer ≡ Text b)
+    pub written : ((k : ℕ) → k < length tones / 64 → (block_heard b m tones own k).answer ≡ Ok b)
         → message_decoded_into limit b m tones out
         ≡ heard_into (decode_message limit b m tones (length out)) (joined (block_text b m tones own) (length tones / 64)) out
 
@@ -106,7 +104,7 @@ pub record RefusesAsUnclear (limit b m : ℕ) (tones out own : List ℕ) : Type 
   pub place : ℕ
   pub block_inside : block < length tones / 64
   pub place_inside : place < b
-  pub refused : decode_message limit b m tones (length out) ≡ Refused (unclear_at (block * b + place) (lead_heard b m tones own block place))
+  pub refused : decode_message limit b m tones (length out) ≡ Err (unclear_at (block * b + place) (lead_heard b m tones own block place))
   pub unclear : lead_heard b m tones own block place < m
   pub lowest : (k q : ℕ) → q < b → k * b + q < block * b + place → m ≤ lead_heard b m tones own k q
   pub kept : message_decoded_into limit b m tones out ≡ out
@@ -133,7 +131,7 @@ pub record Stays (limit b m m' : ℕ) (tones out : List ℕ) : Type 0 where
 
 pub record Raised (limit b m m' : ℕ) (tones out own : List ℕ) : Type 0 where
   pub either : Stays limit b m m' tones out ⊎ RefusesAsUnclear limit b m' tones out own
-  pub same_text : (n : ℕ) → decode_message limit b m' tones (length out) ≡ Text n → Stays limit b m m' tones out
+  pub same_text : (n : ℕ) → decode_message limit b m' tones (length out) ≡ Ok n → Stays limit b m m' tones out
   pub still_unclear : RefusesAsUnclear limit b m tones out own → RefusesAsUnclear limit b m' tones out own
 
 -- Raising m within its range leaves the answer to a message and its output as they are, or turns the answer into a refusal as unclear.

@@ -1,14 +1,13 @@
 -- What encoding a message of at most limit codes answers and leaves in the output. Checks when sending: 1, 5, 9, 6.
-use Rattle.std.specs.Prelude.{Bool, cond, not, List, ℕ, ◌+◌, ◌*◌, ltb, length}
+use Rattle.std.specs.Prelude.{Bool, cond, not, List, ℕ, ◌+◌, ◌*◌, ltb, length, Ok, Err}
 use Rattle.lists.specs.Lists.{tab, joined, num}
 use Rattle.lists.specs.Places.{first}
-use Rattle.refusal.specs.Refused.{refused_at}
+use Rattle.refusal.specs.Refused.{Answered, refused_at}
 use Rattle.refusal.specs.Checks.{within, is_mode}
 use Rattle.chain.specs.Chain.{tones_of}
 use Rattle.block_encoder.specs.Encoding.{sent_into}
-use Rattle.block_encoder.specs.declared.Encoded.{Encoded}
-use Rattle.block_encoder.specs.declared.Encoded.TheVariants.{Tones, Refused}
 use Rattle.message_encoder.specs.Blocks.{block_count}
+use Rattle.refusal.specs.declared.Reason.{Reason}
 
 -- the b codes of block k; past the end of the text stands code 0, which fills the last block
 unfoldable pub block_codes : ℕ → List ℕ → ℕ → List ℕ
@@ -27,13 +26,13 @@ unfoldable pub first_bad_text_code : List ℕ → ℕ
 first_bad_text_code text = first (bad_text_code text) (length text)
 
 -- the answer for an output of room tones
-unfoldable pub encode_message : ℕ → ℕ → List ℕ → ℕ → Encoded
+unfoldable pub encode_message : ℕ → ℕ → List ℕ → ℕ → Answered ℕ
 encode_message limit b text room =
-    cond (not (is_mode b)) (Refused (refused_at 1 0))
-    (cond (ltb limit (length text)) (Refused (refused_at 5 0))
-    (cond (ltb room (64 * block_count b (length text))) (Refused (refused_at 9 0))
-    (cond (ltb (first_bad_text_code text) (length text)) (Refused (refused_at 6 (first_bad_text_code text)))
-    (Tones (64 * block_count b (length text))))))
+    cond (not (is_mode b)) (Err (refused_at Reason.Mode 0))
+    (cond (ltb limit (length text)) (Err (refused_at Reason.CodeCount 0))
+    (cond (ltb room (64 * block_count b (length text))) (Err (refused_at Reason.Room 0))
+    (cond (ltb (first_bad_text_code text) (length text)) (Err (refused_at Reason.Code (first_bad_text_code text)))
+    (Ok (64 * block_count b (length text))))))
 
 -- the output after it: the tones of all blocks at its front, or as it was
 unfoldable pub message_encoded_into : ℕ → ℕ → List ℕ → List ℕ → List ℕ

@@ -7,8 +7,7 @@ ghost use Rattle.refusal.specs.Checks.{is_mode};
 ghost use Rattle.message_encoder.specs.Blocks.{longest, block_count};
 ghost use Rattle.message_encoder.specs.Encoding.{first_bad_text_code, sent_tones, encode_message, message_encoded_into};
 
-use block_encoder::Encoded;
-use refusal::{Refusal, checks};
+use refusal::{Reason, Refusal, checks};
 
 // The most codes of a message.
 pub const LONGEST: usize = 1024;
@@ -17,7 +16,7 @@ pub const LONGEST: usize = 1024;
 const FILLING: u8 = 0;
 
 // Encodes a text of codes from 1 to 127 as 64 tones a block, at the front of tones.
-pub fn encode_message(mode: u32, text: &[u8], tones: &mut [u16]) -> Encoded
+pub fn encode_message(mode: u32, text: &[u8], tones: &mut [u16]) -> Result<usize, Refusal>
     ensures answer { result ≡ encode_message longest mode text.now (length tones.old) }
     ensures output { tones.new ≡ message_encoded_into longest mode text.now tones.old }
 {
@@ -25,27 +24,27 @@ pub fn encode_message(mode: u32, text: &[u8], tones: &mut [u16]) -> Encoded
 }
 
 // Encodes a text of at most limit codes.
-fn encode_within(limit: usize, mode: u32, text: &[u8], tones: &mut [u16]) -> Encoded
+fn encode_within(limit: usize, mode: u32, text: &[u8], tones: &mut [u16]) -> Result<usize, Refusal>
     requires { limit ≤ longest }
     ensures answer { result ≡ encode_message limit mode text.now (length tones.old) }
     ensures output { tones.new ≡ message_encoded_into limit mode text.now tones.old }
 {
     if !checks::is_mode(mode) {
-        return Encoded::Refused(Refusal::at(refusal::MODE, 0));
+        return Err(Refusal::at(Reason::Mode, 0));
     }
     if limit < text.len() {
-        return Encoded::Refused(Refusal::at(refusal::CODE_COUNT, 0));
+        return Err(Refusal::at(Reason::CodeCount, 0));
     }
     let count = block_count(mode as usize, text.len());
     if tones.len() < 64 * count {
-        return Encoded::Refused(Refusal::at(refusal::ROOM, 0));
+        return Err(Refusal::at(Reason::Room, 0));
     }
     let bad = first_bad_code(text);
     if bad < text.len() {
-        return Encoded::Refused(Refusal::at(refusal::CODE, bad));
+        return Err(Refusal::at(Reason::Code, bad));
     }
     put_blocks(mode, text, count, tones);
-    Encoded::Tones(64 * count)
+    Ok(64 * count)
 }
 
 // The blocks that a count of codes takes.

@@ -8,7 +8,7 @@ use native.Mathlib.Omega.{arith}
 use borrow.Author.Tests.{ltb-true, ltb-false, not-false}
 use lib.Dec.{ltb, leb, eqb}
 use lib.ListN.{length, length-map}
-use Rattle.refusal.specs.Refused.{refused_at}
+use Rattle.refusal.specs.Refused.{Answered, refused_at}
 use Rattle.refusal.specs.Checks.{is_lead_at, is_mode, is_lead}
 use Rattle.refusal.specs.declared.Refusal.{Refusal}
 use Rattle.refusal.proofs.Limits.{within_range, mode_range}
@@ -16,10 +16,7 @@ use Rattle.decision.specs.declared.Character.{Character}
 use Rattle.tone_range.specs.Range.{first_bad_tone}
 use Rattle.weight_range.specs.Range.{first_bad_weight}
 use Rattle.block_encoder.specs.Encoding.{first_bad_code, encode_block}
-use Rattle.block_encoder.specs.declared.Encoded.{Encoded}
 use Rattle.block_decoder.specs.Decoding.{weighted_of, codes_of, first_unclear, unless_unclear, refused, heard_block}
-use Rattle.block_decoder.specs.declared.Decoded.{Decoded}
-use Rattle.block_decoder.specs.declared.Decoded.TheVariants.{Text}
 use Rattle.block_decoder.specs.declared.BlockDecoded.{BlockDecoded}
 use Rattle.block_decoder.proofs.Characters.{characters_length}
 use Rattle.delivery.specs.Delivery.{text_end, first_zero, delivery}
@@ -31,28 +28,25 @@ use Rattle.message_decoder.specs.Decoding.{message_characters, decode_message}
 use Rattle.message_decoder.proofs.HeardBlocks.{message_count}
 use Rattle.band.specs.Limits.{fault}
 use Rattle.band.specs.Frequencies.{hertz_of, frequency_of}
-use Rattle.band.specs.declared.Tuned.TheVariants as tuned
 use Rattle.search.specs.Starts.{longest_run, starts}
 use Rattle.finder.specs.Finding.{first_start, is_run, found_start, find_block}
-use Rattle.finder.specs.declared.Finding.{Finding}
 use Rattle.energy.specs.Energies.{summed, heard_energies}
 use Rattle.energy.specs.Energies as energies
 use Rattle.energy.specs.declared.Energies.{Energies}
-use Rattle.block_encoder.specs.declared.Checked.{Checked}
 use Rattle.block_encoder.specs.Checking.{check_codes}
-use Rattle.sender.specs.declared.Handed.{Handed}
 use Rattle.sender.specs.Queues.{Block, reserved, one_more, place_answer, after_check, hand_answer}
 use Rattle.told.proofs.Kept.{carried_by, heard_carries, finding_carries, totalled_carries, handed_carries}
+use Rattle.std.proofs.Common.{Ok, Err}
 
 -- what holds of each of two answers holds of the one that a test chooses
 either_way : {A : Type 0} (P : A → Type 0) (t : Bool) (x y : A) → (t ≡ true → P x) → (t ≡ false → P y) → P (cond t x y)
 either_way P true x y f g = f refl
 either_way P false x y f g = g refl
 
-abbrev SmallSent : Encoded → Type 0
+abbrev SmallSent : Answered ℕ → Type 0
 SmallSent answer = carried_by answer < 2 ^ 32
 
-abbrev SmallHeard : Decoded → Type 0
+abbrev SmallHeard : Answered ℕ → Type 0
 SmallHeard answer = heard_carries answer < 2 ^ 32
 
 abbrev SmallHeardBlock : BlockDecoded → Type 0
@@ -71,7 +65,7 @@ block_sent_small b codes room =
     (λ _. omega arith))))
 
 -- of some characters, by their count and by the answer for clear ones
-judged_small : (m : ℕ) (characters : List Character) (clear : Decoded) → length characters < 2 ^ 32 → heard_carries clear < 2 ^ 32
+judged_small : (m : ℕ) (characters : List Character) (clear : Answered ℕ) → length characters < 2 ^ 32 → heard_carries clear < 2 ^ 32
     → heard_carries (unless_unclear m characters clear) < 2 ^ 32
 unfolding unless_unclear
 judged_small m characters clear few h =
@@ -94,7 +88,7 @@ block_heard_small N b m tones weights room =
     (λ bad. omega (arith, ltb-true (first_bad_weight N weights) 64 bad))
     (λ _.
     let high : b ≤ 8 = (mode_range b (not-false _ mode)).1 in
-    judged_small m (weighted_of b tones weights) (Text b) (omega (arith, characters_length b tones weights)) (omega arith))))))))
+    judged_small m (weighted_of b tones weights) (Ok b) (omega (arith, characters_length b tones weights)) (omega arith))))))))
 
 -- ---- a block's energies
 
@@ -116,7 +110,7 @@ energies_small N b tones weights =
 
 -- ---- a block in a run
 
-abbrev SmallFound : Finding → Type 0
+abbrev SmallFound : Answered ℕ → Type 0
 SmallFound answer = finding_carries answer < 2 ^ 32
 
 pub found_small : (b m : ℕ) (run : List ℕ) (room : ℕ) → finding_carries (find_block b m run room).answer < 2 ^ 32
@@ -180,11 +174,11 @@ message_heard_small b m tones room =
 
 -- ---- a frequency
 
-pub frequency_refused_at_0 : (b w c n : ℕ) (r : Refusal) → frequency_of b w c n ≡ tuned.Refused r → r.place ≡ 0
+pub frequency_refused_at_0 : (b w c n : ℕ) (r : Refusal) → frequency_of b w c n ≡ Err r → r.place ≡ 0
 unfolding frequency_of
 frequency_refused_at_0 b w c n r e = by (eqb (fault b w c n) 0) e
   where
-    by : (t : Bool) → cond t (tuned.Hertz (hertz_of b w c n)) (tuned.Refused (refused_at (fault b w c n) 0)) ≡ tuned.Refused r → r.place ≡ 0
+    by : (t : Bool) → cond t (Ok (hertz_of b w c n)) (Err (refused_at (fault b w c n) 0)) ≡ Err r → r.place ≡ 0
     by true e = let z : ◌≡◌ {A = ℕ} 0 1 = cc in absurd (omega arith)
     by false e = cc
 
@@ -197,7 +191,7 @@ placed_small counts depot =
     either_way SmallHanded (leb 8 (counts depot)) _ _ (λ _. omega (arith, ltb-false 29 depot known)) (λ _.
     either_way SmallHanded (ltb 150 (reserved (one_more counts depot))) _ _ (λ _. omega (arith, ltb-false 29 depot known)) (λ _. omega arith)))
   where
-    SmallHanded : Handed → Type 0
+    SmallHanded : Answered Unit → Type 0
     SmallHanded answer = handed_carries answer < 2 ^ 32
 
 pub handed_small : (counts : ℕ → ℕ) (depot : ℕ) (b : Block) → handed_carries (hand_answer counts depot b) < 2 ^ 32
@@ -209,5 +203,5 @@ handed_small counts depot b =
     (λ bad. omega (arith, ltb-true (first_bad_code b.codes) b.mode bad, mode_range b.mode (not-false _ mode)))
     (λ _. placed_small counts depot)))
   where
-    Small : Checked → Type 0
+    Small : Answered Unit → Type 0
     Small checked = handed_carries (after_check checked (place_answer counts depot)) < 2 ^ 32

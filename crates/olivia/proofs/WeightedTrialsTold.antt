@@ -4,7 +4,6 @@ use mathlib.Core.List.{List}
 use mathlib.Core.Logic.{⊎_elim, inl, inr}
 use Prim.Native.Nat.{ℕ}
 use lib.ListN.{length}
-use Rattle.block_encoder.specs.declared.Encoded.{Encoded}
 use Rattle.block_decoder.specs.Decoding.{decode_weighted}
 use Rattle.weighted_demands.specs.Demand.{MeetsWeightedDemand3}
 use Rattle.weighted_demands.specs.declared.WeightedTrial.{WeightedTrial}
@@ -14,14 +13,15 @@ use Rattle.olivia.specs.Told.{weighted_trial_told}
 use Rattle.olivia.specs.WeightedTried.{MeetsWeightedDemand3ForC, WeightedTriedForC}
 use Rattle.olivia.specs.declared.WeightedTrialAnswers.{WeightedTrialAnswers}
 use Rattle.olivia.proofs.TrialsTold.{gives_told, refuses_told}
+use Rattle.refusal.specs.Refused.{Answered}
 
 module _ (b m : ℕ) (text heard weights tones tones' one one' two two' : List ℕ) (t : WeightedTrial) where
   demand_told : MeetsWeightedDemand3 b m text t tones tones' one one' two two'
       → MeetsWeightedDemand3ForC b m text t.second.characters (weighted_trial_told t) tones tones' one one' two two'
   unfolding weighted_trial_told
   demand_told d = record {
-    accepted = ap (λ (e : Encoded). (encoded_told e).number) d.accepted;
-    count = ap (λ (e : Encoded). (encoded_told e).count) d.accepted;
+    accepted = ap (λ (e : Answered ℕ). (encoded_told e).number) d.accepted;
+    count = ap (λ (e : Answered ℕ). (encoded_told e).count) d.accepted;
     sent = d.sent;
     first = gives_told b m text one one' t.first d.first;
     same = λ g. gives_told b m text two two' t.second (d.same g);

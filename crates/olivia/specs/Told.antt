@@ -1,18 +1,17 @@
 -- What C is told of the range check, of a frequency and of a trial (include/olivia.h).
-use Rattle.std.specs.Prelude.{cond, not, List, ℕ, ◌^◌, ltb, length}
+use Rattle.std.specs.Prelude.{cond, not, List, ℕ, ◌^◌, ltb, length, Ok, Err}
 use Rattle.lists.specs.Caps.{capped}
 use Rattle.refusal.specs.Checks.{is_mode}
 use Rattle.tone_range.specs.Range.{first_bad_tone, looked_at}
 use Rattle.demands.specs.declared.Trial.{Trial}
 use Rattle.weighted_demands.specs.declared.WeightedTrial.{WeightedTrial}
 use Rattle.scaled.specs.Exact.{scaled}
-use Rattle.band.specs.declared.Tuned.{Tuned}
-use Rattle.band.specs.declared.Tuned.TheVariants as tuned
 use Rattle.told.specs.Told.{encoded_told, decoded_told}
 use Rattle.olivia.specs.declared.LookedAnswer.{LookedAnswer}
 use Rattle.olivia.specs.declared.HertzAnswer.{HertzAnswer}
 use Rattle.olivia.specs.declared.TrialAnswers.{TrialAnswers}
 use Rattle.olivia.specs.declared.WeightedTrialAnswers.{WeightedTrialAnswers}
+use Rattle.refusal.specs.Refused.{Answered}
 
 abbrev pub looked_answer : ℕ → ℕ → ℕ → LookedAnswer
 looked_answer number place looked = record { number = number; place = place; looked = looked }
@@ -25,9 +24,9 @@ looked_told b tones =
     (looked_answer 0 0 (looked_at (2 ^ b) tones)))
 
 -- a refusal has no frequency: 0 stands there
-abbrev pub hertz_told : Tuned → HertzAnswer
-hertz_told (tuned.Hertz x) = record { number = 0; place = 0; hertz = x }
-hertz_told (tuned.Refused r) = record { number = r.number; place = r.place; hertz = scaled 0 }
+abbrev pub hertz_told : Answered Float → HertzAnswer
+hertz_told (Ok x) = record { number = 0; place = 0; hertz = x }
+hertz_told (Err r) = record { number = r.number; place = r.place; hertz = scaled 0 }
 
 unfoldable pub trial_told : Trial → TrialAnswers
 trial_told t = record {

@@ -21,11 +21,9 @@ ghost use Rattle.olivia.specs.Told.{looked_answer, looked_told, hertz_told};
 ghost use Rattle.olivia.specs.Tried.{TriedForC};
 ghost use Rattle.olivia.specs.WeightedTried.{WeightedTriedForC};
 
-use refusal::checks;
+use refusal::{Reason, checks};
 use sender::{Sender, lent};
-use told::{
-    Answer, BlockAnswer, EnergiesAnswer, FoundAnswer, LocatedAnswer, ReadAnswer, SentAnswer,
-};
+use told::{Answer, BlockAnswer, EnergiesAnswer, FoundAnswer, LocatedAnswer, ReadAnswer, SentAnswer, };
 
 // number 0: no tone is bad, and place is 0. Else the refusal. looked is how many tones were looked at.
 #[repr(C)]
@@ -133,11 +131,11 @@ pub extern "C" fn olivia_check_tones(mode: u32, tones: &[u16]) -> LookedAnswer
     ensures { result ≡ looked_told mode tones.now }
 {
     if !checks::is_mode(mode) {
-        return looked(refusal::MODE, 0, 0);
+        return looked(Reason::Mode, 0, 0);
     }
     let range = tone_range::check(checks::tone_count(mode), tones);
     if range.bad < tones.len() {
-        return looked(refusal::TONE, range.bad, range.looked);
+        return looked(Reason::Tone, range.bad, range.looked);
     }
     looked(0, 0, range.looked)
 }
@@ -169,12 +167,12 @@ pub extern "C" fn olivia_frequency(mode: u32, width: u32, centre: u32, tone: u16
 {
     let tuned = band::frequency(mode, width, centre, tone);
     match tuned {
-        band::Tuned::Hertz(hertz) => HertzAnswer {
+        Ok(hertz) => HertzAnswer {
             number: 0,
             place: 0,
             hertz,
         },
-        band::Tuned::Refused(refusal) => {
+        Err(refusal) => {
             let answer = told::refused(refusal);
             HertzAnswer {
                 number: answer.number,

@@ -1,8 +1,7 @@
 -- Limits that several entries check: document 01, "Who can cause a refusal".
-use Rattle.std.specs.Prelude.{Bool, true, cond, ◌&&◌, ◌≡◌, ℕ, ◌*◌, leb, Result, Ok, Err}
+use Rattle.std.specs.Prelude.{Bool, true, cond, ◌&&◌, ◌≡◌, ℕ, ◌*◌, leb, Ok, Err}
 use Rattle.refusal.specs.declared.Reason.{Reason}
-use Rattle.refusal.specs.declared.Refusal.{Refusal}
-use Rattle.refusal.specs.Refused.{Counted, refused_at}
+use Rattle.refusal.specs.Refused.{Answered, refused_at}
 
 abbrev pub within : ℕ → ℕ → ℕ → Bool
 within low high n = leb low n && leb n high
@@ -19,13 +18,13 @@ is_lead m = is_lead_at 1 m
 
 -- ---- the same as answers
 
-unfoldable pub checked_mode : ℕ → Counted
+unfoldable pub checked_mode : ℕ → Answered ℕ
 checked_mode b = cond (is_mode b) (Ok b) (Err (refused_at Reason.Mode 0))
 
-unfoldable pub checked_lead_at : ℕ → ℕ → Result Unit Refusal
+unfoldable pub checked_lead_at : ℕ → ℕ → Answered Unit
 checked_lead_at N m = cond (is_lead_at N m) (Ok tt) (Err (refused_at Reason.LeastLead 0))
 
-abbrev pub checked_lead : ℕ → Result Unit Refusal
+abbrev pub checked_lead : ℕ → Answered Unit
 checked_lead m = checked_lead_at 1 m
 
 -- ---- what they leave known

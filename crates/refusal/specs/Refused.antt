@@ -33,6 +33,6 @@ refused_at reason place = record { reason = reason; place = place; lead = 0 }
 abbrev pub unclear_at : ℕ → ℕ → Refusal
 unclear_at place lead = record { reason = Reason.Unclear; place = place; lead = lead }
 
--- a count of what was written, or the refusal
-abbrev pub Counted : Type 0
-Counted = Result ℕ Refusal
+-- what an entry answers, or the refusal
+abbrev pub Answered : Type 0 → Type 0
+Answered A = Result A Refusal

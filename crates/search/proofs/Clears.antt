@@ -18,7 +18,6 @@ use Rattle.refusal.proofs.Limits.{mode_range}
 use Rattle.decision.specs.declared.Character.{Character}
 use Rattle.chain.specs.Tables.{symbol_of, place_value}
 use Rattle.block_decoder.specs.Decoding.{plain, characters_of, lead_in, first_unclear, unless_unclear, refused, decode_block}
-use Rattle.block_decoder.specs.declared.Decoded.TheVariants.{Text}
 use Rattle.block_decoder.specs.declared.BlockDecoded.{BlockDecoded}
 use Rattle.block_decoder.proofs.Answers.{decided}
 use Rattle.block_decoder.proofs.Characters.{characters_length, character_at_lem}
@@ -30,14 +29,15 @@ use Rattle.checked_block.proofs.CheckedTones.{below_in_range}
 use Rattle.search.specs.Starts.{longest_run, stretch_at, starts, is_text, accepted_at, first_accepted}
 use Rattle.search.specs.Internal.{clear_by}
 use Rattle.search.proofs.Windows.{stretch_length, window_kept}
+use Rattle.std.proofs.Common.{Ok}
 
 -- ---- 64 tones
 
-pub accepts : (m : ℕ) (characters : List Character) (n : ℕ) → is_text (unless_unclear m characters (Text n)) ≡ leb (length characters) (first_unclear m characters)
+pub accepts : (m : ℕ) (characters : List Character) (n : ℕ) → is_text (unless_unclear m characters (Ok n)) ≡ leb (length characters) (first_unclear m characters)
 unfolding unless_unclear
 accepts m characters n = by (dec_lt (first_unclear m characters) (length characters))
   where
-    by : Dec (first_unclear m characters < length characters) → is_text (unless_unclear m characters (Text n)) ≡ leb (length characters) (first_unclear m characters)
+    by : Dec (first_unclear m characters < length characters) → is_text (unless_unclear m characters (Ok n)) ≡ leb (length characters) (first_unclear m characters)
     by (yes l) = rw (lt-ltb (first_unclear m characters) (length characters) l, lt-leb (length characters) (first_unclear m characters) l)
     by (no g) =
         let h : length characters ≤ first_unclear m characters = omega arith in

@@ -1,9 +1,8 @@
 -- Document 02, order 1: the starts of a run of tones, and the first at which 64 tones are accepted that were checked before.
-use Rattle.std.specs.Prelude.{Bool, true, false, cond, List, ℕ, ◌-◌, ltb, length, take, drop}
+use Rattle.std.specs.Prelude.{Bool, true, false, cond, List, ℕ, ◌-◌, ltb, length, take, drop, Ok, Err}
 use Rattle.lists.specs.Places.{first}
-use Rattle.block_decoder.specs.declared.Decoded.{Decoded}
-use Rattle.block_decoder.specs.declared.Decoded.TheVariants.{Text, Refused}
 use Rattle.checked_block.specs.Checked.{decode_checked}
+use Rattle.refusal.specs.Refused.{Answered}
 
 -- the most tones that a run may have
 abbrev pub longest_run : ℕ
@@ -18,9 +17,9 @@ abbrev pub starts : List ℕ → ℕ
 starts run = length run - 63
 
 -- whether an answer is a text
-abbrev pub is_text : Decoded → Bool
-is_text (Text n) = true
-is_text (Refused r) = false
+abbrev pub is_text : Answered ℕ → Bool
+is_text (Ok n) = true
+is_text (Err r) = false
 
 -- whether the 64 tones from a start on are accepted, a tone that is none of the mode's counting as missing
 unfoldable pub accepted_at : ℕ → ℕ → List ℕ → ℕ → Bool

@@ -4,35 +4,33 @@ use mathlib.Core.Path.{◌≡◌}
 use Prim.Native.Nat.{ℕ, ◌<◌}
 use lib.ListN.{length}
 use Rattle.refusal.specs.declared.Refusal.{Refusal}
-use Rattle.refusal.specs.Refused.{refused_at}
-use Rattle.sender.specs.declared.Handed.{Handed}
-use Rattle.sender.specs.declared.Handed.TheVariants as handed
-use Rattle.sender.specs.declared.Sent.{Sent}
-use Rattle.sender.specs.declared.Sent.TheVariants as sent
+use Rattle.refusal.specs.Refused.{Answered, refused_at}
 use Rattle.sender.specs.Queues.{Block, Queues, waiting, hand_answer, joined, handed_by, next_depot, oldest, send_answer, served, sent_by}
 use Rattle.sender.specs.Runs.{Call, hand, send, Answer, to_hand, to_send, answer, after}
 use Rattle.sender.proofs.Cases.{Takes, HandCase, hand_case, SendCase, send_case}
+use Rattle.std.proofs.Common.{Ok, Err, Option}
+use Rattle.refusal.specs.declared.Reason.{Reason}
 
 -- a call, its answer and the queues that it leaves
 pub data CallCase (q : Queues) : Call → Answer → Queues → Type 0 where
-  not_taken : (depot : ℕ) (b : Block) (r : Refusal) → CallCase q (hand depot b) (to_hand (handed.Refused r)) q
-  takes : (depot : ℕ) (b : Block) → Takes (waiting q) depot b → CallCase q (hand depot b) (to_hand handed.Taken) (joined q depot b)
-  not_sent : (tones : List ℕ) (r : Refusal) → CallCase q (send tones) (to_send (sent.Refused r)) q
-  none : (tones : List ℕ) → ((d : ℕ) → d < 30 → waiting q d ≡ 0) → CallCase q (send tones) (to_send sent.NoneWaiting) q
+  not_taken : (depot : ℕ) (b : Block) (r : Refusal) → CallCase q (hand depot b) (to_hand (Err r)) q
+  takes : (depot : ℕ) (b : Block) → Takes (waiting q) depot b → CallCase q (hand depot b) (to_hand (Ok tt)) (joined q depot b)
+  not_sent : (tones : List ℕ) (r : Refusal) → CallCase q (send tones) (to_send (Err r)) q
+  none : (tones : List ℕ) → ((d : ℕ) → d < 30 → waiting q d ≡ 0) → CallCase q (send tones) (to_send (Ok None)) q
   serves : (tones : List ℕ) → next_depot q < 30 → 0 < waiting q (next_depot q)
-      → CallCase q (send tones) (to_send (sent.Block (next_depot q) (oldest q (next_depot q)).mode)) (served q (next_depot q))
+      → CallCase q (send tones) (to_send (BLOCK (next_depot q) (oldest q (next_depot q)).mode)) (served q (next_depot q))
 
 module _ (q : Queues) where
-  hand_call : (depot : ℕ) (b : Block) (a : Handed) → HandCase (waiting q) depot b a → CallCase q (hand depot b) (to_hand a) (handed_by a q depot b)
+  hand_call : (depot : ℕ) (b : Block) (a : Answered Unit) → HandCase (waiting q) depot b a → CallCase q (hand depot b) (to_hand a) (handed_by a q depot b)
   unfolding handed_by
   hand_call depot b a (HandCase.faulty r h) = CallCase.not_taken depot b r
-  hand_call depot b a (HandCase.full l h) = CallCase.not_taken depot b (refused_at 18 depot)
-  hand_call depot b a (HandCase.crowded l w h) = CallCase.not_taken depot b (refused_at 19 depot)
+  hand_call depot b a (HandCase.full l h) = CallCase.not_taken depot b (refused_at Reason.DepotFull depot)
+  hand_call depot b a (HandCase.crowded l w h) = CallCase.not_taken depot b (refused_at Reason.AllFull depot)
   hand_call depot b a (HandCase.takes t) = CallCase.takes depot b t
 
-  send_call : (tones : List ℕ) (a : Sent) → SendCase q (length tones) a → CallCase q (send tones) (to_send a) (sent_by a q)
+  send_call : (tones : List ℕ) (a : Answered (Option Served)) → SendCase q (length tones) a → CallCase q (send tones) (to_send a) (sent_by a q)
   unfolding sent_by
-  send_call tones a (SendCase.short h) = CallCase.not_sent tones (refused_at 9 0)
+  send_call tones a (SendCase.short h) = CallCase.not_sent tones (refused_at Reason.Room 0)
   send_call tones a (SendCase.none h z) = CallCase.none tones z
   send_call tones a (SendCase.one h l n w) = CallCase.serves tones n w
 

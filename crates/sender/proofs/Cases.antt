@@ -9,16 +9,13 @@ use lib.Dec.{ltb, leb}
 use Rattle.lists.specs.Laws.{IsFirst}
 use Rattle.lists.proofs.Places.{first_is}
 use Rattle.refusal.specs.declared.Refusal.{Refusal}
-use Rattle.refusal.specs.Refused.{refused_at}
-use Rattle.block_encoder.specs.declared.Checked.{Checked}
+use Rattle.refusal.specs.Refused.{Answered, refused_at}
 use Rattle.block_encoder.specs.Checking.{check_codes}
 use Rattle.block_encoder.proofs.CheckCases.{RightCodes, CheckCase, check_case}
-use Rattle.sender.specs.declared.Handed.{Handed}
-use Rattle.sender.specs.declared.Handed.TheVariants as handed
-use Rattle.sender.specs.declared.Sent.{Sent}
-use Rattle.sender.specs.declared.Sent.TheVariants as sent
 use Rattle.sender.specs.Queues.{Block, Queues, waiting, reserved, one_more, place_answer, after_check, hand_answer, ahead, next_depot, oldest, send_answer}
 use Rattle.sender.proofs.Rounds.{distance, round_small, distance_small, distance_reaches}
+use Rattle.std.proofs.Common.{Ok, Err, Option}
+use Rattle.refusal.specs.declared.Reason.{Reason}
 
 -- ---- handing in
 
@@ -29,12 +26,12 @@ pub record Takes (counts : ℕ → ℕ) (depot : ℕ) (b : Block) : Type 0 where
   pub own : counts depot < 8
   pub sum : reserved (one_more counts depot) ≤ 150
 
-pub data HandCase (counts : ℕ → ℕ) (depot : ℕ) (b : Block) : Handed → Type 0 where
+pub data HandCase (counts : ℕ → ℕ) (depot : ℕ) (b : Block) : Answered Unit → Type 0 where
   -- 1, 5, 6 or 17
-  faulty : (r : Refusal) → r.number ≤ 17 → HandCase counts depot b (handed.Refused r)
-  full : depot < 30 → 8 ≤ counts depot → HandCase counts depot b (handed.Refused (refused_at 18 depot))
-  crowded : depot < 30 → counts depot < 8 → 150 < reserved (one_more counts depot) → HandCase counts depot b (handed.Refused (refused_at 19 depot))
-  takes : Takes counts depot b → HandCase counts depot b handed.Taken
+  faulty : (r : Refusal) → r.number ≤ 17 → HandCase counts depot b (Err r)
+  full : depot < 30 → 8 ≤ counts depot → HandCase counts depot b (Err (refused_at Reason.DepotFull depot))
+  crowded : depot < 30 → counts depot < 8 → 150 < reserved (one_more counts depot) → HandCase counts depot b (Err (refused_at Reason.AllFull depot))
+  takes : Takes counts depot b → HandCase counts depot b (Ok tt)
 
 module _ (counts : ℕ → ℕ) (depot : ℕ) (b : Block) where
   place_case : RightCodes b.mode b.codes → HandCase counts depot b (place_answer counts depot)
@@ -45,35 +42,35 @@ module _ (counts : ℕ → ℕ) (depot : ℕ) (b : Block) where
       sum = reserved (one_more counts depot)
 
       sum_check : depot < 30 → counts depot < 8 → (t : Bool) → ltb 150 sum ≡ t
-          → HandCase counts depot b (cond t (handed.Refused (refused_at 19 depot)) handed.Taken)
+          → HandCase counts depot b (cond t (Err (refused_at Reason.AllFull depot)) (Ok tt))
       sum_check l w true e = HandCase.crowded l w (ltb-true 150 sum e)
       sum_check l w false e = HandCase.takes (record { right = right; known = l; own = w; sum = ltb-false 150 sum e })
 
       own_check : depot < 30 → (t : Bool) → leb 8 (counts depot) ≡ t
           → HandCase counts depot b
-          (cond t (handed.Refused (refused_at 18 depot)) (cond (ltb 150 sum) (handed.Refused (refused_at 19 depot)) handed.Taken))
+          (cond t (Err (refused_at Reason.DepotFull depot)) (cond (ltb 150 sum) (Err (refused_at Reason.AllFull depot)) (Ok tt)))
       own_check l true e = HandCase.full l (leb-true 8 (counts depot) e)
       own_check l false e = sum_check l (leb-false 8 (counts depot) e) (ltb 150 sum) refl
 
       depot_check : (t : Bool) → ltb 29 depot ≡ t
           → HandCase counts depot b
-          (cond t (handed.Refused (refused_at 17 0))
-          (cond (leb 8 (counts depot)) (handed.Refused (refused_at 18 depot)) (cond (ltb 150 sum) (handed.Refused (refused_at 19 depot)) handed.Taken)))
-      depot_check true e = HandCase.faulty (refused_at 17 0) (omega arith)
+          (cond t (Err (refused_at Reason.Depot 0))
+          (cond (leb 8 (counts depot)) (Err (refused_at Reason.DepotFull depot)) (cond (ltb 150 sum) (Err (refused_at Reason.AllFull depot)) (Ok tt))))
+      depot_check true e = HandCase.faulty (refused_at Reason.Depot 0) (omega arith)
       depot_check false e = own_check (omega (arith, ltb-false 29 depot e)) (leb 8 (counts depot)) refl
 
   pub hand_case : HandCase counts depot b (hand_answer counts depot b)
   unfolding hand_answer
   hand_case = by (check_codes b.mode b.codes) (check_case b.mode b.codes)
     where
-      by : (k : Checked) → CheckCase b.mode b.codes k → HandCase counts depot b (after_check k (place_answer counts depot))
+      by : (k : Answered Unit) → CheckCase b.mode b.codes k → HandCase counts depot b (after_check k (place_answer counts depot))
       by k (CheckCase.wrong r h) = unfold after_check in HandCase.faulty r (omega arith)
       by k (CheckCase.right right) = unfold after_check in place_case right
 
-  pub taken_checks : hand_answer counts depot b ≡ handed.Taken → Takes counts depot b
+  pub taken_checks : hand_answer counts depot b ≡ (Ok tt) → Takes counts depot b
   taken_checks = by (hand_answer counts depot b) hand_case
     where
-      by : (a : Handed) → HandCase counts depot b a → a ≡ handed.Taken → Takes counts depot b
+      by : (a : Answered Unit) → HandCase counts depot b a → a ≡ (Ok tt) → Takes counts depot b
       by a (HandCase.faulty r h) e = let z : ◌≡◌ {A = ℕ} 0 1 = cc in absurd (omega arith)
       by a (HandCase.full l h) e = let z : ◌≡◌ {A = ℕ} 0 1 = cc in absurd (omega arith)
       by a (HandCase.crowded l w h) e = let z : ◌≡◌ {A = ℕ} 0 1 = cc in absurd (omega arith)
@@ -81,11 +78,11 @@ module _ (counts : ℕ → ℕ) (depot : ℕ) (b : Block) where
 
 -- ---- sending
 
-pub data SendCase (q : Queues) (room : ℕ) : Sent → Type 0 where
-  short : room < 64 → SendCase q room (sent.Refused (refused_at 9 0))
-  none : 64 ≤ room → ((d : ℕ) → d < 30 → waiting q d ≡ 0) → SendCase q room sent.NoneWaiting
+pub data SendCase (q : Queues) (room : ℕ) : Answered (Option Served) → Type 0 where
+  short : room < 64 → SendCase q room (Err (refused_at Reason.Room 0))
+  none : 64 ≤ room → ((d : ℕ) → d < 30 → waiting q d ≡ 0) → SendCase q room (Ok None)
   one : 64 ≤ room → ahead q.turn (waiting q) < 30 → next_depot q < 30 → 0 < waiting q (next_depot q)
-      → SendCase q room (sent.Block (next_depot q) (oldest q (next_depot q)).mode)
+      → SendCase q room (BLOCK (next_depot q) (oldest q (next_depot q)).mode)
 
 module _ (turn : ℕ) (counts : ℕ → ℕ) where
   ahead_first : IsFirst (λ k. ltb 0 (counts ((turn + k) % 30))) 30 (ahead turn counts)
@@ -123,13 +120,13 @@ module _ (q : Queues) where
       none_waits k d l (no h) = omega arith
 
       next_check : 64 ≤ room → (s : Bool) → ltb (ahead q.turn (waiting q)) 30 ≡ s
-          → SendCase q room (cond s (sent.Block (next_depot q) (oldest q (next_depot q)).mode) sent.NoneWaiting)
+          → SendCase q room (cond s (BLOCK (next_depot q) (oldest q (next_depot q)).mode) (Ok None))
       next_check r true e = let l = ltb-true (ahead q.turn (waiting q)) 30 e in SendCase.one r l next_small (next_some l)
       next_check r false e = SendCase.none r (λ d l. none_waits (ltb-false (ahead q.turn (waiting q)) 30 e) d l (dec_lt 0 (waiting q d)))
 
       room_check : (s : Bool) → ltb room 64 ≡ s
           → SendCase q room
-          (cond s (sent.Refused (refused_at 9 0))
-          (cond (ltb (ahead q.turn (waiting q)) 30) (sent.Block (next_depot q) (oldest q (next_depot q)).mode) sent.NoneWaiting))
+          (cond s (Err (refused_at Reason.Room 0))
+          (cond (ltb (ahead q.turn (waiting q)) 30) (BLOCK (next_depot q) (oldest q (next_depot q)).mode) (Ok None)))
       room_check true e = SendCase.short (ltb-true room 64 e)
       room_check false e = next_check (ltb-false room 64 e) (ltb (ahead q.turn (waiting q)) 30) refl

@@ -7,10 +7,8 @@ use borrow.Author.Tests.{lt-ltb, le-ltb}
 use lib.ListN.{length}
 use Rattle.lists.specs.Lists.{num}
 use Rattle.refusal.specs.declared.Refusal.{Refusal}
-use Rattle.refusal.specs.Refused.{refused_at}
+use Rattle.refusal.specs.Refused.{Answered, refused_at}
 use Rattle.block_encoder.proofs.CheckCases.{right_encoded}
-use Rattle.sender.specs.declared.Sent.{Sent}
-use Rattle.sender.specs.declared.Sent.TheVariants as sent
 use Rattle.sender.specs.Queues.{Queues, new, waiting, ahead, next_depot, oldest, send_answer, sent_by, tones_by}
 use Rattle.sender.specs.Runs.{Call, after, run}
 use Rattle.sender.specs.State.{counts_in, Holds}
@@ -20,53 +18,55 @@ use Rattle.sender.proofs.Steps.{ahead_ext}
 use Rattle.sender.proofs.Cases.{next_some}
 use Rattle.sender.proofs.Reached.{places_suffice, reached}
 use Rattle.sender.proofs.RightBlocks.{oldest_right}
+use Rattle.std.proofs.Common.{Ok, Err, Option}
+use Rattle.refusal.specs.declared.Reason.{Reason}
 
 module _ (q : Queues) (room : ℕ) where
-  answers_short : room < 64 → send_answer q room ≡ sent.Refused (refused_at 9 0)
+  answers_short : room < 64 → send_answer q room ≡ Err (refused_at Reason.Room 0)
   unfolding send_answer
   answers_short h = simp (lt-ltb room 64 h)
 
   module _ (enough : 64 ≤ room) where
-    answers_none : 30 ≤ ahead q.turn (waiting q) → send_answer q room ≡ sent.NoneWaiting
+    answers_none : 30 ≤ ahead q.turn (waiting q) → send_answer q room ≡ (Ok None)
     unfolding send_answer
     answers_none h = simp (le-ltb room 64 enough, le-ltb (ahead q.turn (waiting q)) 30 h)
 
-    answers_block : ahead q.turn (waiting q) < 30 → send_answer q room ≡ sent.Block (next_depot q) (oldest q (next_depot q)).mode
+    answers_block : ahead q.turn (waiting q) < 30 → send_answer q room ≡ BLOCK (next_depot q) (oldest q (next_depot q)).mode
     unfolding send_answer
     answers_block h = simp (le-ltb room 64 enough, lt-ltb (ahead q.turn (waiting q)) 30 h)
 
-refused_same : {r x : Refusal} → sent.Refused r ≡ sent.Refused x → x ≡ r
+refused_same : {r x : Refusal} → Err r ≡ Err x → x ≡ r
 refused_same e = cc
 
-refused_no_block : {r : Refusal} {d mode : ℕ} → sent.Refused r ≡ sent.Block d mode → ⊥
+refused_no_block : {r : Refusal} {d mode : ℕ} → Err r ≡ BLOCK d mode → ⊥
 refused_no_block e = let z : ◌≡◌ {A = ℕ} 0 1 = cc in omega arith
 
-none_no_block : {d mode : ℕ} → sent.NoneWaiting ≡ sent.Block d mode → ⊥
+none_no_block : {d mode : ℕ} → (Ok None) ≡ BLOCK d mode → ⊥
 none_no_block e = let z : ◌≡◌ {A = ℕ} 0 1 = cc in omega arith
 
-none_unrefused : {x : Refusal} → sent.NoneWaiting ≡ sent.Refused x → ⊥
+none_unrefused : {x : Refusal} → (Ok None) ≡ Err x → ⊥
 none_unrefused e = let z : ◌≡◌ {A = ℕ} 0 1 = cc in omega arith
 
 module _ (state tones : List ℕ) where
   unchanged : Unchanged state tones tones state
   unchanged = record { output = refl; state_kept = refl }
 
-  pub short_sent : {r : Refusal} → r ≡ refused_at 9 0 → length tones < 64
-      → SentFrom state tones (sent.Refused r) tones state × SentFromAny state tones (sent.Refused r) tones state
+  pub short_sent : {r : Refusal} → r ≡ refused_at Reason.Room 0 → length tones < 64
+      → SentFrom state tones (Err r) tones state × SentFromAny state tones (Err r) tones state
   unfolding tones_by after sent_by
   short_sent p h = (
     record {
-      answered = λ calls k. ap sent.Refused p ∙ sym (answers_short (run new calls) (length tones) h);
+      answered = λ calls k. ap Err p ∙ sym (answers_short (run new calls) (length tones) h);
       output = λ calls k. refl;
       left = λ calls k. rw (answers_short (run new calls) (length tones) h) k;
     },
-    record { short = λ l. ap sent.Refused p; only = λ x e. refused_same e ∙ p; kept = λ e. unchanged; written = λ d mode e. absurd (refused_no_block e) },
+    record { short = λ l. ap Err p; only = λ x e. refused_same e ∙ p; kept = λ e. unchanged; written = λ d mode e. absurd (refused_no_block e) },
   )
 
   module _ (enough : 64 ≤ length tones) where
     -- nothing is sent: of a state of a run because it has none waiting
     none_when : ((calls : List Call) → Holds (run new calls) state → 30 ≤ ahead (run new calls).turn (waiting (run new calls)))
-        → SentFrom state tones sent.NoneWaiting tones state × SentFromAny state tones sent.NoneWaiting tones state
+        → SentFrom state tones (Ok None) tones state × SentFromAny state tones (Ok None) tones state
     unfolding tones_by after sent_by
     none_when none = (
       record {
@@ -77,7 +77,7 @@ module _ (state tones : List ℕ) where
       record { short = λ l. absurd (omega arith); only = λ x e. absurd (none_unrefused e); kept = λ e. unchanged; written = λ d mode e. absurd (none_no_block e) },
     )
 
-    pub no_state_sent : (length state ≡ 1532 → ⊥) → SentFrom state tones sent.NoneWaiting tones state × SentFromAny state tones sent.NoneWaiting tones state
+    pub no_state_sent : (length state ≡ 1532 → ⊥) → SentFrom state tones (Ok None) tones state × SentFromAny state tones (Ok None) tones state
     no_state_sent ne = none_when (λ calls k. absurd (ne k.size))
 
     module _ (calls : List Call) (h : Holds (run new calls) state) where
@@ -92,17 +92,17 @@ module _ (state tones : List ℕ) where
       depot_held = ap₂ (λ (t k : ℕ). (t + k) % 30) turn_held ahead_held
 
     pub none_sent : 30 ≤ ahead (num state 1531 % 30) (counts_in state)
-        → SentFrom state tones sent.NoneWaiting tones state × SentFromAny state tones sent.NoneWaiting tones state
+        → SentFrom state tones (Ok None) tones state × SentFromAny state tones (Ok None) tones state
     none_sent h = none_when (λ calls k. omega (arith, ahead_held calls k))
 
     module _ (depot : ℕ) (e : depot ≡ (num state 1531 % 30 + ahead (num state 1531 % 30) (counts_in state)) % 30)
         (h : ahead (num state 1531 % 30) (counts_in state) < 30)
-        (answer : Sent) (tones' next : List ℕ) (v : ServedFrom state depot tones answer tones' next) where
+        (answer : Answered (Option Served)) (tones' next : List ℕ) (v : ServedFrom state depot tones answer tones' next) where
       module _ (calls : List Call) (k : Holds (run new calls) state) where
         found : ahead (run new calls).turn (waiting (run new calls)) < 30
         found = omega (arith, ahead_held calls k)
 
-        its_answer : send_answer (run new calls) (length tones) ≡ sent.Block (next_depot (run new calls)) (oldest (run new calls) (next_depot (run new calls))).mode
+        its_answer : send_answer (run new calls) (length tones) ≡ BLOCK (next_depot (run new calls)) (oldest (run new calls) (next_depot (run new calls))).mode
         its_answer = answers_block (run new calls) (length tones) enough found
 
         serves : Serves (run new calls) (next_depot (run new calls)) tones answer tones' next

@@ -13,10 +13,11 @@ use Rattle.lists.proofs.Sums.{total_ext}
 use Rattle.lists.proofs.Places.{first_ext}
 use Rattle.refusal.specs.Refused.{refused_at}
 use Rattle.block_encoder.specs.Checking.{check_codes}
-use Rattle.sender.specs.declared.Handed.TheVariants as handed
 use Rattle.sender.specs.Queues.{Block, Queues, waiting, reserved, one_more, place_answer, after_check, hand_answer, joined, ahead, served}
 use Rattle.sender.proofs.Totals.{total_one}
 use Rattle.sender.proofs.Rounds.{round_small}
+use Rattle.std.proofs.Common.{Ok, Err}
+use Rattle.refusal.specs.declared.Reason.{Reason}
 
 -- ---- one more of a depot
 
@@ -58,12 +59,12 @@ module _ (counts counts' : ℕ → ℕ) (same : (d : ℕ) → d < 30 → counts 
   place_ext = by (ltb 29 depot) refl
     where
       by : (t : Bool) → ltb 29 depot ≡ t
-          → cond t (handed.Refused (refused_at 17 0))
-          (cond (leb 8 (counts depot)) (handed.Refused (refused_at 18 depot))
-          (cond (ltb 150 (reserved (one_more counts depot))) (handed.Refused (refused_at 19 depot)) handed.Taken))
-          ≡ cond t (handed.Refused (refused_at 17 0))
-          (cond (leb 8 (counts' depot)) (handed.Refused (refused_at 18 depot))
-          (cond (ltb 150 (reserved (one_more counts' depot))) (handed.Refused (refused_at 19 depot)) handed.Taken))
+          → cond t (Err (refused_at Reason.Depot 0))
+          (cond (leb 8 (counts depot)) (Err (refused_at Reason.DepotFull depot))
+          (cond (ltb 150 (reserved (one_more counts depot))) (Err (refused_at Reason.AllFull depot)) (Ok tt)))
+          ≡ cond t (Err (refused_at Reason.Depot 0))
+          (cond (leb 8 (counts' depot)) (Err (refused_at Reason.DepotFull depot))
+          (cond (ltb 150 (reserved (one_more counts' depot))) (Err (refused_at Reason.AllFull depot)) (Ok tt)))
       by true e = refl
       by false e = rw (same depot (omega (arith, ltb-false 29 depot e)), reserved_ext (one_more counts depot) (one_more counts' depot) one_more_ext)
 

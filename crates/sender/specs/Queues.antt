@@ -1,16 +1,11 @@
 -- Order 7, "Thirty stations, one transmitter": what waits at each depot, whose turn it is, and what a call answers and leaves.
-use Rattle.std.specs.Prelude.{cond, List, [], ◌∷◌, ◌++◌, ℕ, ◌+◌, ◌%◌, max, ltb, leb, eqb, length, get_or, drop}
+use Rattle.std.specs.Prelude.{cond, List, [], ◌∷◌, ◌++◌, ℕ, ◌+◌, ◌%◌, max, ltb, leb, eqb, length, get_or, drop, Ok, Err, Option}
 use Rattle.lists.specs.Sums.{total}
 use Rattle.lists.specs.Places.{first}
-use Rattle.refusal.specs.Refused.{refused_at}
-use Rattle.block_encoder.specs.declared.Checked.{Checked}
-use Rattle.block_encoder.specs.declared.Checked.TheVariants as checked
+use Rattle.refusal.specs.Refused.{Answered, refused_at}
 use Rattle.block_encoder.specs.Checking.{check_codes}
 use Rattle.block_encoder.specs.Encoding.{encoded_into}
-use Rattle.sender.specs.declared.Handed.{Handed}
-use Rattle.sender.specs.declared.Handed.TheVariants as handed
-use Rattle.sender.specs.declared.Sent.{Sent}
-use Rattle.sender.specs.declared.Sent.TheVariants as sent
+use Rattle.refusal.specs.declared.Reason.{Reason}
 
 -- a block as it was handed in
 pub record Block : Type 0 where
@@ -38,19 +33,19 @@ reserved counts = total 30 (λ d. max 4 (counts d))
 unfoldable pub one_more : (ℕ → ℕ) → ℕ → ℕ → ℕ
 one_more counts depot d = cond (eqb d depot) (counts d + 1) (counts d)
 
-unfoldable pub place_answer : (ℕ → ℕ) → ℕ → Handed
+unfoldable pub place_answer : (ℕ → ℕ) → ℕ → Answered Unit
 place_answer counts depot =
-    cond (ltb 29 depot) (handed.Refused (refused_at 17 0))
-    (cond (leb 8 (counts depot)) (handed.Refused (refused_at 18 depot))
-    (cond (ltb 150 (reserved (one_more counts depot))) (handed.Refused (refused_at 19 depot))
-    handed.Taken))
+    cond (ltb 29 depot) (Err (refused_at Reason.Depot 0))
+    (cond (leb 8 (counts depot)) (Err (refused_at Reason.DepotFull depot))
+    (cond (ltb 150 (reserved (one_more counts depot))) (Err (refused_at Reason.AllFull depot))
+    (Ok tt)))
 
 -- Mode and block checks come first.
-unfoldable pub after_check : Checked → Handed → Handed
-after_check checked.Right a = a
-after_check (checked.Refused r) a = handed.Refused r
+unfoldable pub after_check : Answered Unit → Answered Unit → Answered Unit
+after_check (Ok tt) a = a
+after_check (Err r) a = Err r
 
-unfoldable pub hand_answer : (ℕ → ℕ) → ℕ → Block → Handed
+unfoldable pub hand_answer : (ℕ → ℕ) → ℕ → Block → Answered Unit
 hand_answer counts depot b = after_check (check_codes b.mode b.codes) (place_answer counts depot)
 
 -- a block more at the end of its depot's queue
@@ -58,9 +53,9 @@ unfoldable pub joined : Queues → ℕ → Block → Queues
 joined q depot b = record { at = λ d. cond (eqb d depot) (q.at d ++ (b ∷ [])) (q.at d); turn = q.turn }
 
 -- the queues after an answer
-unfoldable pub handed_by : Handed → Queues → ℕ → Block → Queues
-handed_by handed.Taken q depot b = joined q depot b
-handed_by (handed.Refused r) q depot b = q
+unfoldable pub handed_by : Answered Unit → Queues → ℕ → Block → Queues
+handed_by (Ok tt) q depot b = joined q depot b
+handed_by (Err r) q depot b = q
 
 -- ---- sending. Check: 9
 
@@ -75,24 +70,24 @@ unfoldable pub oldest : Queues → ℕ → Block
 oldest q d = get_or (q.at d) 0 (record { mode = 0; codes = [] })
 
 -- the answer for an output of room tones
-unfoldable pub send_answer : Queues → ℕ → Sent
+unfoldable pub send_answer : Queues → ℕ → Answered (Option Served)
 send_answer q room =
-    cond (ltb room 64) (sent.Refused (refused_at 9 0))
-    (cond (ltb (ahead q.turn (waiting q)) 30) (sent.Block (next_depot q) (oldest q (next_depot q)).mode)
-    sent.NoneWaiting)
+    cond (ltb room 64) (Err (refused_at Reason.Room 0))
+    (cond (ltb (ahead q.turn (waiting q)) 30) (BLOCK (next_depot q) (oldest q (next_depot q)).mode)
+    (Ok None))
 
 -- without the oldest block of a depot, which was served last
 unfoldable pub served : Queues → ℕ → Queues
 served q depot = record { at = λ d. cond (eqb d depot) (drop 1 (q.at d)) (q.at d); turn = (depot + 1) % 30 }
 
 -- the queues after an answer
-unfoldable pub sent_by : Sent → Queues → Queues
-sent_by (sent.Block d mode) q = served q d
-sent_by sent.NoneWaiting q = q
-sent_by (sent.Refused r) q = q
+unfoldable pub sent_by : Answered (Option Served) → Queues → Queues
+sent_by (BLOCK d mode) q = served q d
+sent_by (Ok None) q = q
+sent_by (Err r) q = q
 
 -- the output after an answer: the tones of the depot's oldest block at its front, or as it was
-unfoldable pub tones_by : Sent → Queues → List ℕ → List ℕ
-tones_by (sent.Block d mode) q tones = encoded_into mode (oldest q d).codes tones
-tones_by sent.NoneWaiting q tones = tones
-tones_by (sent.Refused r) q tones = tones
+unfoldable pub tones_by : Answered (Option Served) → Queues → List ℕ → List ℕ
+tones_by (BLOCK d mode) q tones = encoded_into mode (oldest q d).codes tones
+tones_by (Ok None) q tones = tones
+tones_by (Err r) q tones = tones

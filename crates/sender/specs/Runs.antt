@@ -1,8 +1,7 @@
 -- Runs of calls, each getting the state that the last one left.
-use Rattle.std.specs.Prelude.{List, [], ◌∷◌, ℕ, length}
-use Rattle.sender.specs.declared.Handed.{Handed}
-use Rattle.sender.specs.declared.Sent.{Sent}
+use Rattle.std.specs.Prelude.{List, [], ◌∷◌, ℕ, length, Option}
 use Rattle.sender.specs.Queues.{Block, Queues, waiting, hand_answer, handed_by, send_answer, sent_by}
+use Rattle.refusal.specs.Refused.{Answered}
 
 -- a depot hands in a block, or a block is sent into an output
 pub data Call : Type 0 where
@@ -10,8 +9,8 @@ pub data Call : Type 0 where
   send : List ℕ → Call
 
 pub data Answer : Type 0 where
-  to_hand : Handed → Answer
-  to_send : Sent → Answer
+  to_hand : Answered Unit → Answer
+  to_send : Answered (Option Served) → Answer
 
 unfoldable pub answer : Queues → Call → Answer
 answer q (hand depot b) = to_hand (hand_answer (waiting q) depot b)

@@ -3,9 +3,8 @@ ghost use Rattle.std.specs.Prelude.{◌≡◌, ◌<◌, ◌≤◌, max, length};
 ghost use Rattle.sender.specs.Queues.{reserved, place_answer, hand_answer, ahead};
 ghost use Rattle.sender.specs.State.{counts_in};
 
-use super::{COUNTS, Handed};
-use block_encoder::Checked;
-use refusal::Refusal;
+use super::COUNTS;
+use refusal::{Reason, Refusal};
 
 // The larger of 4 and a depot's waiting blocks.
 fn share(waiting: u8) -> u32
@@ -32,32 +31,32 @@ fn reserved(state: &[u8]) -> u32
 }
 
 // Whether a depot may hand in a block more, which makes its share that of one more.
-fn place(state: &[u8], depot: u32) -> Handed
+fn place(state: &[u8], depot: u32) -> Result<(), Refusal>
     requires { length state.now ≡ 1532 }
     ensures { result ≡ place_answer (counts_in state.now) depot }
 {
     if 29 < depot {
-        return Handed::Refused(Refusal::at(refusal::DEPOT, 0));
+        return Err(Refusal::at(Reason::Depot, 0));
     }
     let d = depot as usize;
     let own = state[COUNTS + d];
     if 8 <= own {
-        return Handed::Refused(Refusal::at(refusal::DEPOT_FULL, d));
+        return Err(Refusal::at(Reason::DepotFull, d));
     }
     if 150 + share(own) < reserved(state) + share(own + 1) {
-        return Handed::Refused(Refusal::at(refusal::ALL_FULL, d));
+        return Err(Refusal::at(Reason::AllFull, d));
     }
-    Handed::Taken
+    Ok(())
 }
 
 // The answer to a block handed in.
-pub fn judge(state: &[u8], depot: u32, mode: u32, codes: &[u8]) -> Handed
+pub fn judge(state: &[u8], depot: u32, mode: u32, codes: &[u8]) -> Result<(), Refusal>
     requires { length state.now ≡ 1532 }
     ensures { result ≡ hand_answer (counts_in state.now) depot (record { mode = mode; codes = codes.now }) }
 {
     match block_encoder::check_codes(mode, codes) {
-        Checked::Right => place(state, depot),
-        Checked::Refused(refusal) => Handed::Refused(refusal),
+        Ok(()) => place(state, depot),
+        Err(refusal) => Err(refusal),
     }
 }
 

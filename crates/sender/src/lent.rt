@@ -4,25 +4,24 @@ ghost use Rattle.sender.specs.State.{counts_in, filled};
 ghost use Rattle.sender.specs.Sending.{HandedIn, HandedToAny, SentFrom, SentFromAny};
 ghost use Rattle.sender.specs.Internal.{Stored, TakenOut, ServedFrom};
 
-use super::{COUNTS, FILLED, Handed, SIZE, Sent, TURN, counts, places};
-use block_encoder::Encoded;
-use refusal::Refusal;
+use super::{COUNTS, FILLED, SIZE, TURN, counts, places};
+use refusal::{Reason, Refusal};
 
 // A depot hands in a block.
-pub fn hand_in(state: &mut [u8], depot: u32, mode: u32, codes: &[u8]) -> Handed
+pub fn hand_in(state: &mut [u8], depot: u32, mode: u32, codes: &[u8]) -> Result<(), Refusal>
     ensures run { HandedIn state.old depot (record { mode = mode; codes = codes.now }) result state.new }
     ensures any { HandedToAny state.old depot (record { mode = mode; codes = codes.now }) result state.new }
 {
     if state.len() != SIZE {
-        return Handed::Refused(Refusal::at(refusal::ROOM, 0));
+        return Err(Refusal::at(Reason::Room, 0));
     }
     let answer = counts::judge(state, depot, mode, codes);
     match answer {
-        Handed::Taken => {
+        Ok(()) => {
             store(state, depot as u8, mode as u8, codes);
-            Handed::Taken
+            Ok(())
         }
-        Handed::Refused(refusal) => Handed::Refused(refusal),
+        Err(refusal) => Err(refusal),
     }
 }
 
@@ -41,47 +40,47 @@ fn store(state: &mut [u8], depot: u8, mode: u8, codes: &[u8])
 }
 
 // Sends the oldest block of the first depot with one, looking from the turn on.
-pub fn send(state: &mut [u8], tones: &mut [u16]) -> Sent
+pub fn send(state: &mut [u8], tones: &mut [u16]) -> Result<Option<Served>, Refusal>
     ensures run { SentFrom state.old tones.old result tones.new state.new }
     ensures any { SentFromAny state.old tones.old result tones.new state.new }
 {
     if tones.len() < 64 {
-        return Sent::Refused(Refusal::at(refusal::ROOM, 0));
+        return Err(Refusal::at(Reason::Room, 0));
     }
     if state.len() != SIZE {
-        return Sent::NoneWaiting;
+        return Ok(None);
     }
     let turn = state[TURN] as usize % 30;
     let ahead = counts::ahead(state, turn);
     if 30 <= ahead {
-        return Sent::NoneWaiting;
+        return Ok(None);
     }
     serve(state, (turn + ahead) % 30, tones)
 }
 
 // Sends the oldest block of a depot with one. Where a state that no run of calls leaves has no place for it, or one that the encoder refuses,
 // nothing is sent.
-fn serve(state: &mut [u8], depot: usize, tones: &mut [u16]) -> Sent
+fn serve(state: &mut [u8], depot: usize, tones: &mut [u16]) -> Result<Option<Served>, Refusal>
     requires { (length state.old ≡ 1532) × (depot < 30) × (0 < counts_in state.old depot) × (64 ≤ length tones.old) }
     ensures { ServedFrom state.old depot tones.old result tones.new state.new }
 {
     let count = state[FILLED] as usize;
     if 150 < count {
-        return Sent::NoneWaiting;
+        return Ok(None);
     }
     let at = places::place_of(state, count, depot as u8);
     if count <= at {
-        return Sent::NoneWaiting;
+        return Ok(None);
     }
     let mode = state[10 * at + 1] as u32;
     let from = 10 * at + 2;
     let to = from + places::code_count(mode);
     match block_encoder::encode_block(mode, &state[from..to], tones) {
-        Encoded::Tones(_) => {
+        Ok(_) => {
             take_out(state, depot, at, count);
             Sent::Block(depot as u32, mode)
         }
-        Encoded::Refused(_) => Sent::NoneWaiting,
+        Err(_) => Ok(None),
     }
 }
 

@@ -47,14 +47,14 @@ pub struct Sender {
 // An answer, and the state for the next call.
 #[derive(Clone, Copy)]
 pub struct AfterHandIn {
-    pub answer: Handed,
+    pub answer: Result<(), Refusal>,
     pub sender: Sender,
 }
 
 // The same, of a send.
 #[derive(Clone, Copy)]
 pub struct AfterSend {
-    pub answer: Sent,
+    pub answer: Result<Option<Served>, Refusal>,
     pub sender: Sender,
 }
 

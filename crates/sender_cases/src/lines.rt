@@ -1,6 +1,6 @@
 // The lines of the output: what each call answers.
 use refusal::Refusal;
-use sender::{Handed, Sender, Sent};
+use sender::Sender;
 use std::io;
 
 pub fn end(rt: &impl Print) -> io::Result<()> {
@@ -34,10 +34,10 @@ pub fn hand_in(rt: &impl Print, sender: Sender, depot: u32, number: u32) -> io::
     let after = sender.hand_in(depot, depot % 8 + 1, &codes[..count]);
     let answer = after.answer;
     match answer {
-        Handed::Taken => {
+        Ok(()) => {
             print!(rt; " taken")?;
         }
-        Handed::Refused(refusal) => {
+        Err(refusal) => {
             refused(rt, refusal)?;
         }
     }
@@ -55,10 +55,10 @@ pub fn send(rt: &impl Print, sender: Sender) -> io::Result<Sender> {
             print!(rt; " depot {depot} mode {mode}")?;
             codes(rt, mode, &tones)?;
         }
-        Sent::NoneWaiting => {
+        Ok(None) => {
             print!(rt; " none waiting")?;
         }
-        Sent::Refused(refusal) => {
+        Err(refusal) => {
             refused(rt, refusal)?;
         }
     }
@@ -88,13 +88,13 @@ pub fn short_send(rt: &impl Print, sender: Sender) -> io::Result<Sender> {
     let answer = after.answer;
     print!(rt; "send into 63 tones:")?;
     match answer {
-        Sent::Refused(refusal) => {
+        Err(refusal) => {
             refused(rt, refusal)?;
         }
         Sent::Block(_, _) => {
             print!(rt; " sent")?;
         }
-        Sent::NoneWaiting => {
+        Ok(None) => {
             print!(rt; " none waiting")?;
         }
     }

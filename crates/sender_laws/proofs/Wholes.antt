@@ -6,14 +6,14 @@ use native.Mathlib.Omega.{arith}
 use lib.ListN.{length}
 use Rattle.block_encoder.proofs.EncodeCases.{tones_written}
 use Rattle.block_encoder.proofs.CheckCases.{right_encoded, right_text}
-use Rattle.sender.specs.declared.Sent.{Sent}
-use Rattle.sender.specs.declared.Sent.TheVariants as sending
 use Rattle.sender.specs.Queues.{Queues, new, waiting, next_depot, oldest, send_answer, tones_by}
 use Rattle.sender.specs.Runs.{Call, run}
 use Rattle.sender.proofs.Cases.{SendCase, send_case}
 use Rattle.sender.proofs.Reached.{reached}
 use Rattle.sender.proofs.RightBlocks.{oldest_right}
 use Rattle.sender_laws.specs.Laws.{SendsOldest, SentWhole}
+use Rattle.std.proofs.Common.{Option}
+use Rattle.refusal.specs.Refused.{Answered}
 
 module _ (calls : List Call) (tones : List ℕ) where
   abbrev q : Queues
@@ -31,7 +31,7 @@ module _ (calls : List Call) (tones : List ℕ) where
         (right_encoded (oldest q d).mode (oldest q d).codes (length tones) (oldest_right calls d h) room);
   }
 
-  answer_oldest : (a : Sent) → SendCase q (length tones) a → (d mode : ℕ) → a ≡ sending.Block d mode → SendsOldest q tones d mode
+  answer_oldest : (a : Answered (Option Served)) → SendCase q (length tones) a → (d mode : ℕ) → a ≡ BLOCK d mode → SendsOldest q tones d mode
   answer_oldest a (SendCase.short h) d mode e = let z : ◌≡◌ {A = ℕ} 0 1 = cc in absurd (omega arith)
   answer_oldest a (SendCase.none h k) d mode e = let z : ◌≡◌ {A = ℕ} 0 1 = cc in absurd (omega arith)
   answer_oldest a (SendCase.one h l n k) d mode e =

@@ -6,7 +6,6 @@ use Prim.Native.Nat.{ℕ, ◌+◌, ◌-◌, ◌<◌, ◌≤◌, max}
 use borrow.Author.Tests.{eq-eqb, ne_eqb}
 use lib.ListN.{length, take, drop, get_or}
 use Rattle.refusal.specs.Refused.{refused_at}
-use Rattle.sentence.specs.declared.Read.TheVariants.{Sentence, Refused}
 use Rattle.sentence.specs.declared.matching.Match.{Match}
 use Rattle.sentence.specs.Sentences.{Row, sentences, pattern_in}
 use Rattle.sentence.specs.Condition.{is_pattern}
@@ -14,6 +13,8 @@ use Rattle.sentence.specs.Reading.{matched, found, read_from}
 use Rattle.sentence.specs.Internal.{flat}
 use Rattle.sentence.proofs.Soundness.{sound}
 use Rattle.sentence.proofs.Tables.{Head, Rest, head, rest_none}
+use Rattle.std.proofs.Common.{Ok, Err}
+use Rattle.refusal.specs.declared.Reason.{Reason}
 
 -- the bytes of the pattern of the row that begins at a place
 abbrev pub pattern_at : List ℕ → ℕ → List ℕ
@@ -58,7 +59,7 @@ module _ (table : List ℕ) (n : ℕ) where
 -- ---- what bytes are read as
 
 module _ (r : Row) (rs : List Row) (best : ℕ) (bytes : List ℕ) where
-  pub read_here : (matched r.pattern bytes).whole ≡ true → read_from (r ∷ rs) best bytes ≡ Sentence (found r bytes)
+  pub read_here : (matched r.pattern bytes).whole ≡ true → read_from (r ∷ rs) best bytes ≡ Ok (found r bytes)
   unfolding read_from
   read_here w = rw w
 
@@ -76,7 +77,7 @@ module _ (table bytes : List ℕ) where
   read_start e = record { left = sentences; in_table = e; sound = sound; same = refl }
 
   module _ (at best : ℕ) (r : ReadLeft at best) where
-    pub read_none : length table ≤ at → Refused (refused_at 20 best) ≡ read_from sentences 0 bytes
+    pub read_none : length table ≤ at → Err (refused_at Reason.Sentence best) ≡ read_from sentences 0 bytes
     unfolding read_from
     read_none h = sym (rest_none table at (read_from sentences 0 bytes) (λ left. read_from left best bytes) r h)
 
@@ -94,12 +95,12 @@ module _ (table bytes : List ℕ) where
         own : m ≡ matched read_head.row.pattern bytes
         own = by-match ∙ ap (λ (l : List ℕ). matched l bytes) read_head.pattern
 
-        pub read_found : m.whole ≡ true → Sentence (record { number = get_or table at 0; place = m.place; lead = m.lead }) ≡ read_from sentences 0 bytes
+        pub read_found : m.whole ≡ true → Ok (record { number = get_or table at 0; place = m.place; lead = m.lead }) ≡ read_from sentences 0 bytes
         read_found w =
             let here = read_here read_head.row read_head.later best bytes (sym (ap (λ (x : Match). x.whole) own) ∙ w) in
             sym (from_rows ∙ here
-            ∙ ap (λ (x : Match). Sentence (record { number = read_head.row.number; place = x.place; lead = x.lead })) (sym own)
-            ∙ ap (λ (n : ℕ). Sentence (record { number = n; place = m.place; lead = m.lead })) (sym read_head.number))
+            ∙ ap (λ (x : Match). Ok (record { number = read_head.row.number; place = x.place; lead = x.lead })) (sym own)
+            ∙ ap (λ (n : ℕ). Ok (record { number = n; place = m.place; lead = m.lead })) (sym read_head.number))
 
         pub read_more : m.whole ≡ false → ReadLeft (at + 2 + get_or table (at + 1) 0) (max best m.shared)
         read_more w =

@@ -9,14 +9,12 @@ use lib.Dec.{leb, eqb}
 use lib.ListN.{length, length-append}
 use Rattle.lists.specs.Lists.{tab}
 use Rattle.text.specs.Ascii.{ascii}
-use Rattle.sentence.specs.declared.Written.{Written}
-use Rattle.sentence.specs.declared.Written.TheVariants as written
-use Rattle.sentence.specs.declared.Read.{Read}
-use Rattle.sentence.specs.declared.Read.TheVariants as read
 use Rattle.sentence.specs.Patterns.{piece_text, filled}
 use Rattle.sentence.specs.Sentences.{Row, row, sentences, pattern_in}
 use Rattle.sentence.specs.Internal.{flat}
 use Rattle.sentence.proofs.Fillings.{text_short}
+use Rattle.std.proofs.Common.{Ok, Err}
+use Rattle.refusal.specs.Refused.{Answered}
 
 table_computed : leb (length (flat sentences)) 65535 ≡ true
 unfolding tab ascii row sentences flat
@@ -48,10 +46,10 @@ filled_short place lead hp hl (p ∷ ps) =
 
 -- ---- the length or the place that an answer carries
 
-abbrev pub written_carries : Written → ℕ
-written_carries (written.Length n) = n
-written_carries (written.Refused r) = r.place
+abbrev pub written_carries : Answered ℕ → ℕ
+written_carries (Ok n) = n
+written_carries (Err r) = r.place
 
-abbrev pub read_carries : Read → ℕ
-read_carries (read.Sentence r) = r.place
-read_carries (read.Refused r) = r.place
+abbrev pub read_carries : Answered Refusal → ℕ
+read_carries (Ok r) = r.place
+read_carries (Err r) = r.place

@@ -10,12 +10,12 @@ use lib.Dec.{leb}
 use lib.ListN.{length, drop, get_or}
 use lib.Seq.{drop-cons, drop-length}
 use Rattle.lists.specs.Lists.{over}
-use Rattle.refusal.specs.Refused.{refused_at}
-use Rattle.sentence.specs.declared.Written.{Written}
-use Rattle.sentence.specs.declared.Written.TheVariants.{Length, Refused}
+use Rattle.refusal.specs.Refused.{Answered, refused_at}
 use Rattle.sentence.specs.Patterns.{lead_mark, most_place, filled, is_empty, has, most_lead_of, shows}
 use Rattle.sentence.specs.Writing.{text_into}
 use Rattle.sentence.specs.Internal.{write_pattern, pattern_into}
+use Rattle.std.proofs.Common.{Ok, Err}
+use Rattle.refusal.specs.declared.Reason.{Reason}
 
 -- ---- the largest lead of a pattern
 
@@ -57,27 +57,27 @@ some_more (p ∷ ps) h = refl
 
 module _ (ps : List ℕ) (place lead : ℕ) (out : List ℕ) where
   -- what is answered, and what is left in the output
-  abbrev pub Writes : Written → List ℕ → Type 0
+  abbrev pub Writes : Answered ℕ → List ℕ → Type 0
   Writes w after = (w ≡ write_pattern ps place lead (length out)) × (after ≡ pattern_into ps place lead out)
 
   -- the output is by the answer
-  writes : (w : Written) (after : List ℕ) → w ≡ write_pattern ps place lead (length out) → after ≡ text_into w (filled place lead ps) out → Writes w after
+  writes : (w : Answered ℕ) (after : List ℕ) → w ≡ write_pattern ps place lead (length out) → after ≡ text_into w (filled place lead ps) out → Writes w after
   unfolding pattern_into
-  writes w after e f = (e, f ∙ ap (λ (x : Written). text_into x (filled place lead ps) out) e)
+  writes w after e f = (e, f ∙ ap (λ (x : Answered ℕ). text_into x (filled place lead ps) out) e)
 
-  unknown : shows ps place lead ≡ false → Writes (Refused (refused_at 20 0)) out
+  unknown : shows ps place lead ≡ false → Writes (Err (refused_at Reason.Sentence 0)) out
   unfolding write_pattern text_into
-  unknown e = writes (Refused (refused_at 20 0)) out (rw e) refl
+  unknown e = writes (Err (refused_at Reason.Sentence 0)) out (rw e) refl
 
-  pub no_pattern : length ps ≡ 0 → Writes (Refused (refused_at 20 0)) out
+  pub no_pattern : length ps ≡ 0 → Writes (Err (refused_at Reason.Sentence 0)) out
   unfolding shows
   no_pattern e = unknown (rw (empty_none ps e))
 
-  pub place_above : most_place < place → Writes (Refused (refused_at 20 0)) out
+  pub place_above : most_place < place → Writes (Err (refused_at Reason.Sentence 0)) out
   unfolding shows
   place_above h = unknown (rw (lt-leb place most_place h, and-false (not (is_empty ps))))
 
-  pub lead_above : most_lead_of ps < lead → Writes (Refused (refused_at 20 0)) out
+  pub lead_above : most_lead_of ps < lead → Writes (Err (refused_at Reason.Sentence 0)) out
   unfolding shows
   lead_above h = unknown (rw (lt-leb lead (most_lead_of ps) h, and-false (not (is_empty ps) && leb place most_place)))
 
@@ -86,11 +86,11 @@ module _ (ps : List ℕ) (place lead : ℕ) (out : List ℕ) where
     unfolding shows
     known = rw (some_more ps some, le-leb place most_place low-place, le-leb lead (most_lead_of ps) low-lead)
 
-    pub no_room : length out < length (filled place lead ps) → Writes (Refused (refused_at 9 0)) out
+    pub no_room : length out < length (filled place lead ps) → Writes (Err (refused_at Reason.Room 0)) out
     unfolding write_pattern text_into
-    no_room h = writes (Refused (refused_at 9 0)) out (rw (known, lt-ltb (length out) (length (filled place lead ps)) h)) refl
+    no_room h = writes (Err (refused_at Reason.Room 0)) out (rw (known, lt-ltb (length out) (length (filled place lead ps)) h)) refl
 
     pub room : length (filled place lead ps) ≤ length out → (n : ℕ) (after : List ℕ) → n ≡ length (filled place lead ps)
-        → after ≡ over (filled place lead ps) out → Writes (Length n) after
+        → after ≡ over (filled place lead ps) out → Writes (Ok n) after
     unfolding write_pattern text_into
-    room h n after e f = writes (Length n) after (ap Length e ∙ (rw (known, le-ltb (length out) (length (filled place lead ps)) h))) f
+    room h n after e f = writes (Ok n) after (ap Ok e ∙ (rw (known, le-ltb (length out) (length (filled place lead ps)) h))) f

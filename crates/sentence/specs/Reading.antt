@@ -1,14 +1,13 @@
 -- What reading a sentence answers: bytes are matched with the pattern of each row. What this means is the law `Reading` of `sentence_laws`.
-use Rattle.std.specs.Prelude.{Bool, true, false, cond, not, ◌&&◌, List, [], ◌∷◌, ℕ, suc, ◌+◌, ◌-◌, ◌*◌, max, leb, eqb, drop}
+use Rattle.std.specs.Prelude.{Bool, true, false, cond, not, ◌&&◌, List, [], ◌∷◌, ℕ, suc, ◌+◌, ◌-◌, ◌*◌, max, leb, eqb, drop, Ok, Err}
 use Rattle.text.specs.Decimal.{is_digit}
 use Rattle.refusal.specs.declared.Refusal.{Refusal}
-use Rattle.refusal.specs.Refused.{refused_at}
-use Rattle.sentence.specs.declared.Read.{Read}
-use Rattle.sentence.specs.declared.Read.TheVariants.{Sentence, Refused}
+use Rattle.refusal.specs.Refused.{Answered, refused_at}
 use Rattle.sentence.specs.declared.matching.Scanned.{Scanned}
 use Rattle.sentence.specs.declared.matching.Match.{Match}
 use Rattle.sentence.specs.Patterns.{place_mark, lead_mark, most_place, most_lead, is_empty}
 use Rattle.sentence.specs.Sentences.{Row, sentences}
+use Rattle.refusal.specs.declared.Reason.{Reason}
 
 -- ---- a number at the front of bytes
 
@@ -67,12 +66,12 @@ abbrev pub found : Row → List ℕ → Refusal
 found r bytes = record { number = r.number; place = (matched r.pattern bytes).place; lead = (matched r.pattern bytes).lead }
 
 -- the refusal of the first row that bytes are a sentence of; else 20 at the longest beginning, where rows before share best bytes
-unfoldable pub read_from : List Row → ℕ → List ℕ → Read
-read_from [] best bytes = Refused (refused_at 20 best)
+unfoldable pub read_from : List Row → ℕ → List ℕ → Answered Refusal
+read_from [] best bytes = Err (refused_at Reason.Sentence best)
 read_from (r ∷ rs) best bytes =
     cond (matched r.pattern bytes).whole
-    (Sentence (found r bytes))
+    (Ok (found r bytes))
     (read_from rs (max best (matched r.pattern bytes).shared) bytes)
 
-unfoldable pub read_sentence : List ℕ → Read
+unfoldable pub read_sentence : List ℕ → Answered Refusal
 read_sentence bytes = read_from sentences 0 bytes

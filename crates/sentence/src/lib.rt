@@ -36,7 +36,7 @@ pub enum Written {
     Refused(Refusal),
 }
 
-pub fn read_sentence(bytes: &[u8]) -> Read
+pub fn read_sentence(bytes: &[u8]) -> Result<Refusal, Refusal>
     ensures { result ≡ read_sentence bytes.now }
 {
     let rows = rows::table();
@@ -44,7 +44,7 @@ pub fn read_sentence(bytes: &[u8]) -> Read
 }
 
 // The sentence of a refusal, put at the front of out. Its number may be any of 32 bits.
-pub fn write_sentence(number: u32, place: usize, lead: u32, out: &mut [u8]) -> Written
+pub fn write_sentence(number: u32, place: usize, lead: u32, out: &mut [u8]) -> Result<usize, Refusal>
     ensures answer { result ≡ write_sentence (record { number = number; place = place; lead = lead }) (length out.old) }
     ensures output { out.new ≡ sentence_into (record { number = number; place = place; lead = lead }) out.old }
 {

@@ -4,8 +4,8 @@ ghost use Rattle.sentence.specs.Sentences.{sentences, pattern_in};
 ghost use Rattle.sentence.specs.Reading.{read_from};
 ghost use Rattle.sentence.specs.Internal.{flat};
 
-use super::{Read, matching};
-use refusal::Refusal;
+use super::matching;
+use refusal::{Reason, Refusal};
 
 // Each row is its number, the length of its pattern, and its pattern.
 pub fn table() -> [u8; 1292]
@@ -35,7 +35,7 @@ pub fn table() -> [u8; 1292]
 }
 
 // The refusal of the first row that bytes are a sentence of; else 20 at the longest beginning that a row shares.
-pub fn read(rows: &[u8], bytes: &[u8]) -> Read
+pub fn read(rows: &[u8], bytes: &[u8]) -> Result<Refusal, Refusal>
     requires { rows.now ≡ flat sentences }
     ensures { result ≡ read_from sentences 0 bytes.now }
 {
@@ -47,7 +47,7 @@ pub fn read(rows: &[u8], bytes: &[u8]) -> Read
         let end = from + rows[at + 1] as usize;
         let found = matching::match_pattern(&rows[from..end], bytes);
         if found.whole {
-            return Read::Sentence(Refusal {
+            return Ok(Refusal {
                 number,
                 place: found.place as usize,
                 lead: found.lead,
@@ -56,7 +56,7 @@ pub fn read(rows: &[u8], bytes: &[u8]) -> Read
         best = larger(best, found.shared);
         at = end;
     }
-    Read::Refused(Refusal::at(refusal::SENTENCE, best))
+    Err(Refusal::at(Reason::Sentence, best))
 }
 
 // The pattern of a number's row, empty if no row has it.

@@ -5,28 +5,28 @@ ghost use Rattle.text.specs.Written.{written};
 ghost use Rattle.sentence.specs.Patterns.{piece_text, filled, most_lead_of};
 ghost use Rattle.sentence.specs.Internal.{write_pattern, pattern_into};
 
-use super::{LEAD_MARK, MOST_LEAD, MOST_PLACE, PLACE_MARK, Written};
-use refusal::Refusal;
+use super::{LEAD_MARK, MOST_LEAD, MOST_PLACE, PLACE_MARK};
+use refusal::{Reason, Refusal};
 
 // The sentence of a pattern, place and lead, where it has one and the output has room for it.
-pub fn write(pattern: &[u8], place: usize, lead: u32, out: &mut [u8]) -> Written
+pub fn write(pattern: &[u8], place: usize, lead: u32, out: &mut [u8]) -> Result<usize, Refusal>
     requires { length pattern.now ≤ 65535 }
     ensures answer { result ≡ write_pattern pattern.now place lead (length out.old) }
     ensures output { out.new ≡ pattern_into pattern.now place lead out.old }
 {
     if pattern.len() == 0 {
-        return Written::Refused(Refusal::at(refusal::SENTENCE, 0));
+        return Err(Refusal::at(Reason::Sentence, 0));
     }
     if (MOST_PLACE as usize) < place {
-        return Written::Refused(Refusal::at(refusal::SENTENCE, 0));
+        return Err(Refusal::at(Reason::Sentence, 0));
     }
     if most_lead(pattern) < lead {
-        return Written::Refused(Refusal::at(refusal::SENTENCE, 0));
+        return Err(Refusal::at(Reason::Sentence, 0));
     }
     if out.len() < filled_length(pattern, place, lead) {
-        return Written::Refused(Refusal::at(refusal::ROOM, 0));
+        return Err(Refusal::at(Reason::Room, 0));
     }
-    Written::Length(put_filled(pattern, place, lead, out))
+    Ok(put_filled(pattern, place, lead, out))
 }
 
 // The largest lead that a pattern shows.

@@ -2,7 +2,6 @@
 ghost use Rattle.std.specs.Prelude.{◌≤◌};
 
 use refusal::Refusal;
-use sentence::{Read, Written};
 use std::io;
 
 // No sentence is longer.
@@ -33,13 +32,13 @@ fn at_most(n: usize, most: usize) -> usize
     most
 }
 
-fn told(rt: &impl Print, answer: Written, out: &[u8]) -> io::Result<()> {
+fn told(rt: &impl Print, answer: Result<usize, Refusal>, out: &[u8]) -> io::Result<()> {
     match answer {
-        Written::Length(n) => {
+        Ok(n) => {
             let end = at_most(n, out.len());
             rt.write_all(&out[..end])?;
         }
-        Written::Refused(refusal) => refused(rt, refusal)?,
+        Err(refusal) => refused(rt, refusal)?,
     }
     println!(rt; "")
 }
@@ -67,7 +66,7 @@ pub fn read(rt: &impl Print, bytes: &[u8]) -> io::Result<()> {
     print!(rt; "': ")?;
     let answer = sentence::read_sentence(bytes);
     match answer {
-        Read::Sentence(refusal) => {
+        Ok(refusal) => {
             let Refusal {
                 number,
                 place,
@@ -75,7 +74,7 @@ pub fn read(rt: &impl Print, bytes: &[u8]) -> io::Result<()> {
             } = refusal;
             print!(rt; "number {number} place {place} lead {lead}")?;
         }
-        Read::Refused(refusal) => refused(rt, refusal)?,
+        Err(refusal) => refused(rt, refusal)?,
     }
     println!(rt; "")
 }

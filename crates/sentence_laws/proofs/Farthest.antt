@@ -9,7 +9,6 @@ use native.Mathlib.Omega.{arith}
 use Rattle.refusal.specs.declared.Refusal.{Refusal}
 use Rattle.refusal.specs.Refused.{refused_at}
 use Rattle.sentence.specs.declared.matching.Match.{Match}
-use Rattle.sentence.specs.declared.Read.TheVariants.{Refused}
 use Rattle.sentence.specs.Patterns.{most_lead}
 use Rattle.sentence.specs.Sentences.{Row, pattern_in, sentence_in}
 use Rattle.sentence.specs.Condition.{are_sound}
@@ -20,6 +19,8 @@ use Rattle.sentence_laws.proofs.Shared.{shared}
 use Rattle.sentence_laws.proofs.Matching.{match_most, match_agrees}
 use Rattle.sentence_laws.proofs.KnownRows.{Known, none_known, Where, known_where, known_later, sentence_later, found_known, found_sentence}
 use Rattle.sentence_laws.proofs.RowReading.{lead_small}
+use Rattle.std.proofs.Common.{Err}
+use Rattle.refusal.specs.declared.Reason.{Reason}
 
 -- a known refusal whose sentence shares n bytes
 abbrev pub Reached : List Row → List ℕ → ℕ → Type 0
@@ -69,11 +70,11 @@ module _ (r : Row) (rs : List Row) (f : First r rs) (best : ℕ) (bytes : List �
 
 -- ---- the rows
 
-pub refused_farthest : (rows : List Row) → are_sound rows ≡ true → (best : ℕ) (bytes : List ℕ) (q : Refusal) → read_from rows best bytes ≡ Refused q
+pub refused_farthest : (rows : List Row) → are_sound rows ≡ true → (best : ℕ) (bytes : List ℕ) (q : Refusal) → read_from rows best bytes ≡ Err q
     → Farthest rows best bytes q
 unfolding read_from
 refused_farthest [] e best bytes q h =
-    let same : refused_at 20 best ≡ q = cc in
+    let same : refused_at Reason.Sentence best ≡ q = cc in
     rw (← same) (record { number = refl; lead = refl; least = omega arith; most = λ x k. absurd (none_known x k); reached = inl refl })
 refused_farthest (r ∷ rs) e best bytes q h = by m.whole refl (refused_farthest rs f.rest (max best m.shared) bytes q)
   where
@@ -84,6 +85,6 @@ refused_farthest (r ∷ rs) e best bytes q h = by m.whole refl (refused_farthest
     m = matched r.pattern bytes
 
     by : (t : Bool) → m.whole ≡ t
-        → (read_from rs (max best m.shared) bytes ≡ Refused q → Farthest rs (max best m.shared) bytes q) → Farthest (r ∷ rs) best bytes q
+        → (read_from rs (max best m.shared) bytes ≡ Err q → Farthest rs (max best m.shared) bytes q) → Farthest (r ∷ rs) best bytes q
     by true w ih = let z : ◌≡◌ {A = ℕ} 0 1 = cc (read_here r rs best bytes w) in absurd (omega arith)
     by false w ih = one_more r rs f best bytes q (ih (sym (read_later r rs best bytes w) ∙ h))

@@ -6,7 +6,6 @@ use Prim.Native.Nat.{ℕ, ◌≤◌, max}
 use native.Mathlib.Omega.{arith}
 use Rattle.refusal.specs.declared.Refusal.{Refusal}
 use Rattle.sentence.specs.declared.matching.Match.{Match}
-use Rattle.sentence.specs.declared.Read.TheVariants.{Sentence}
 use Rattle.sentence.specs.Patterns.{lead_mark, most_place, most_lead, filled, has, most_lead_of}
 use Rattle.sentence.specs.Sentences.{Row, pattern_in, sentence_in}
 use Rattle.sentence.specs.Condition.{are_sound}
@@ -17,6 +16,7 @@ use Rattle.sentence_laws.proofs.Matching.{match_agrees, match_whole}
 use Rattle.sentence_laws.proofs.Parting.{parted_not_whole}
 use Rattle.sentence_laws.proofs.SoundRows.{apart_from}
 use Rattle.sentence_laws.proofs.KnownRows.{Known, none_known, Where, known_where, known_later, sentence_later, found_known, found_sentence}
+use Rattle.std.proofs.Common.{Ok}
 
 -- ---- leads
 
@@ -50,7 +50,7 @@ found_own r x bytes row number place lead text =
     (ap (λ (m : Match). m.whole) whole, rw (number, p, l))
 
 pub sentence_read : (rows : List Row) → are_sound rows ≡ true → (x : Refusal) → Known rows x → (best : ℕ) (bytes : List ℕ) → bytes ≡ sentence_in rows x
-    → read_from rows best bytes ≡ Sentence x
+    → read_from rows best bytes ≡ Ok x
 unfolding sentence_in
 sentence_read [] e x k best bytes h = absurd (none_known x k)
 sentence_read (r ∷ rs) e x k best bytes h = by (known_where r rs x k) (sentence_read rs f.rest x)
@@ -58,11 +58,11 @@ sentence_read (r ∷ rs) e x k best bytes h = by (known_where r rs x k) (sentenc
     f : First r rs
     f = first r rs e
 
-    by : Where r rs x → ((j : Known rs x) (b : ℕ) (l : List ℕ) → l ≡ sentence_in rs x → read_from rs b l ≡ Sentence x)
-        → read_from (r ∷ rs) best bytes ≡ Sentence x
+    by : Where r rs x → ((j : Known rs x) (b : ℕ) (l : List ℕ) → l ≡ sentence_in rs x → read_from rs b l ≡ Ok x)
+        → read_from (r ∷ rs) best bytes ≡ Ok x
     by (Where.here number same) ih =
         let own = found_own r x bytes f.row number k.place (rw same at k.lead) (h ∙ ap (filled x.place x.lead) same) in
-        read_here r rs best bytes own.0 ∙ ap Sentence own.1
+        read_here r rs best bytes own.0 ∙ ap Ok own.1
     by (Where.later same j) ih =
         let text : bytes ≡ filled x.place x.lead (pattern_in rs x.number) = h ∙ ap (filled x.place x.lead) same in
         let parts = (apart_from r rs x.number f.apart j.some).parts in
@@ -72,7 +72,7 @@ sentence_read (r ∷ rs) e x k best bytes h = by (known_where r rs x k) (sentenc
 
 -- ---- only a sentence is read
 
-pub read_sentence_lem : (rows : List Row) → are_sound rows ≡ true → (best : ℕ) (bytes : List ℕ) (x : Refusal) → read_from rows best bytes ≡ Sentence x
+pub read_sentence_lem : (rows : List Row) → are_sound rows ≡ true → (best : ℕ) (bytes : List ℕ) (x : Refusal) → read_from rows best bytes ≡ Ok x
     → Known rows x × (bytes ≡ sentence_in rows x)
 unfolding read_from
 read_sentence_lem [] e best bytes x h = let z : ◌≡◌ {A = ℕ} 0 1 = cc in absurd (omega arith)
@@ -84,7 +84,7 @@ read_sentence_lem (r ∷ rs) e best bytes x h = by m.whole refl (read_sentence_l
     m : Match
     m = matched r.pattern bytes
 
-    by : (t : Bool) → m.whole ≡ t → (read_from rs (max best m.shared) bytes ≡ Sentence x → Known rs x × (bytes ≡ sentence_in rs x))
+    by : (t : Bool) → m.whole ≡ t → (read_from rs (max best m.shared) bytes ≡ Ok x → Known rs x × (bytes ≡ sentence_in rs x))
         → Known (r ∷ rs) x × (bytes ≡ sentence_in (r ∷ rs) x)
     by true w ih =
         let same : found r bytes ≡ x = cc (read_here r rs best bytes w) in

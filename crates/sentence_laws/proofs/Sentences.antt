@@ -7,8 +7,6 @@ use Prim.Native.Nat.{ℕ, ◌<◌, ◌≤◌}
 use native.Mathlib.Omega.{arith}
 use lib.ListN.{length}
 use Rattle.refusal.specs.declared.Refusal.{Refusal}
-use Rattle.sentence.specs.declared.Read.{Read}
-use Rattle.sentence.specs.declared.Read.TheVariants.{Sentence, Refused}
 use Rattle.sentence.specs.Sentences.{sentences, sentence_in, is_known, sentence_of}
 use Rattle.sentence.specs.Reading.{read_sentence}
 use Rattle.sentence.proofs.Soundness.{sound}
@@ -18,10 +16,12 @@ use Rattle.sentence_laws.proofs.Shared.{shared, share, shared_most}
 use Rattle.sentence_laws.proofs.KnownRows.{Known, known, is_known_lem, some_known}
 use Rattle.sentence_laws.proofs.RowReading.{sentence_read, read_sentence_lem}
 use Rattle.sentence_laws.proofs.Farthest.{Reached, Farthest, refused_farthest}
+use Rattle.std.proofs.Common.{Ok, Err}
+use Rattle.refusal.specs.Refused.{Answered}
 
 -- ---- a sentence is read back
 
-pub back : (r : Refusal) → is_known r ≡ true → read_sentence (sentence_of r) ≡ Sentence r
+pub back : (r : Refusal) → is_known r ≡ true → read_sentence (sentence_of r) ≡ Ok r
 unfolding is_known sentence_of read_sentence
 back r k = sentence_read sentences sound r (known sentences r k) 0 (sentence_in sentences r) refl
 
@@ -63,16 +63,16 @@ none_longer bytes m n f g = let (r, k, s) = f.reached in g.most r m k s
 
 -- ---- what bytes are read as
 
-read_known : (bytes : List ℕ) (r : Refusal) → read_sentence bytes ≡ Sentence r → IsSentence bytes r
+read_known : (bytes : List ℕ) (r : Refusal) → read_sentence bytes ≡ Ok r → IsSentence bytes r
 unfolding is_known sentence_of read_sentence
 read_known bytes r e =
     let (k, same) = read_sentence_lem sentences sound 0 bytes r e in
     record { known = is_known_lem sentences r k; same = same }
 
-known_read : (bytes : List ℕ) (r : Refusal) → IsSentence bytes r → read_sentence bytes ≡ Sentence r
+known_read : (bytes : List ℕ) (r : Refusal) → IsSentence bytes r → read_sentence bytes ≡ Ok r
 known_read bytes r s = ap read_sentence s.same ∙ back r s.known
 
-read_none : (bytes : List ℕ) (q : Refusal) → read_sentence bytes ≡ Refused q → IsNone bytes q
+read_none : (bytes : List ℕ) (q : Refusal) → read_sentence bytes ≡ Err q → IsNone bytes q
 unfolding read_sentence
 read_none bytes q e =
     let f = refused_farthest sentences sound 0 bytes q e in
@@ -94,17 +94,17 @@ refused_once bytes p q f g =
 meant : (bytes : List ℕ) → Means bytes (read_sentence bytes)
 meant bytes = by (read_sentence bytes) refl
   where
-    by : (a : Read) → read_sentence bytes ≡ a → Means bytes a
-    by (Sentence r) e = read_known bytes r e
-    by (Refused q) e = read_none bytes q e
+    by : (a : Answered Refusal) → read_sentence bytes ≡ a → Means bytes a
+    by (Ok r) e = read_known bytes r e
+    by (Err q) e = read_none bytes q e
 
-only : (bytes : List ℕ) (a : Read) → Means bytes a → a ≡ read_sentence bytes
-only bytes (Sentence r) s = sym (known_read bytes r s)
-only bytes (Refused q) s = by (read_sentence bytes) (meant bytes)
+only : (bytes : List ℕ) (a : Answered Refusal) → Means bytes a → a ≡ read_sentence bytes
+only bytes (Ok r) s = sym (known_read bytes r s)
+only bytes (Err q) s = by (read_sentence bytes) (meant bytes)
   where
-    by : (a : Read) → Means bytes a → Refused q ≡ a
-    by (Sentence r) m = absurd (s.none r m)
-    by (Refused p) m = ap Refused (refused_once bytes q p s m)
+    by : (a : Answered Refusal) → Means bytes a → Err q ≡ a
+    by (Ok r) m = absurd (s.none r m)
+    by (Err p) m = ap Err (refused_once bytes q p s m)
 
 pub reading : Reading
 reading = record { meant = meant; only = only }

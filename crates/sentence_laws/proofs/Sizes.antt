@@ -7,10 +7,7 @@ use native.Mathlib.Omega.{arith}
 use lib.Dec.{ltb}
 use lib.ListN.{length}
 use Rattle.refusal.specs.declared.Refusal.{Refusal}
-use Rattle.refusal.specs.Refused.{refused_at}
-use Rattle.sentence.specs.declared.Read.{Read}
-use Rattle.sentence.specs.declared.Read.TheVariants.{Sentence, Refused}
-use Rattle.sentence.specs.declared.Written.TheVariants as written
+use Rattle.refusal.specs.Refused.{Answered, refused_at}
 use Rattle.sentence.specs.Sentences.{sentences, pattern_in, sentence_in, is_known, sentence_of}
 use Rattle.sentence.specs.Reading.{read_sentence}
 use Rattle.sentence.specs.Writing.{write_sentence}
@@ -19,6 +16,8 @@ use Rattle.sentence_laws.specs.Meaning.{Means}
 use Rattle.sentence_laws.proofs.KnownRows.{Known, known}
 use Rattle.sentence_laws.proofs.RowReading.{lead_small}
 use Rattle.sentence_laws.proofs.Sentences.{reading}
+use Rattle.std.proofs.Common.{Ok, Err}
+use Rattle.refusal.specs.declared.Reason.{Reason}
 
 known_parts : (r : Refusal) → is_known r ≡ true → Known sentences r
 unfolding is_known
@@ -39,16 +38,16 @@ unfolding write_sentence
 written_small r room = by (is_known r) refl (ltb room (length (sentence_of r)))
   where
     by : (t : Bool) → is_known r ≡ t → (short : Bool)
-        → written_carries (cond (not t) (written.Refused (refused_at 20 0)) (cond short (written.Refused (refused_at 9 0)) (written.Length (length (sentence_of r))))) < 2 ^ 32
+        → written_carries (cond (not t) (Err (refused_at Reason.Sentence 0)) (cond short (Err (refused_at Reason.Room 0)) (Ok (length (sentence_of r))))) < 2 ^ 32
     by true k true = omega arith
     by true k false = sentence_short r k
     by false k short = omega arith
 
 -- ---- what reading answers
 
-means_small : (bytes : List ℕ) (a : Read) → Means bytes a → read_carries a < 2 ^ 32
-means_small bytes (Sentence r) s = omega (arith, (known_parts r s.known).place)
-means_small bytes (Refused q) s =
+means_small : (bytes : List ℕ) (a : Answered Refusal) → Means bytes a → read_carries a < 2 ^ 32
+means_small bytes (Ok r) s = omega (arith, (known_parts r s.known).place)
+means_small bytes (Err q) s =
     let (r, k, shares) = s.place.reached in
     omega (arith, shares.within_other, sentence_short r k)
 

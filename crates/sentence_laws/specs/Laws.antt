@@ -1,16 +1,14 @@
 -- The laws of sentences: document 02, order 8. Each is the promise of the function of the same name in src/laws.rt. They are of the list as
 -- a whole, and follow from the condition on it that is computed, `sentence::laws::sound`; `Reading` also from there being a row.
-use Rattle.std.specs.Prelude.{true, List, ◌++◌, ◌≡◌, ℕ, length, take}
+use Rattle.std.specs.Prelude.{true, List, ◌++◌, ◌≡◌, ℕ, length, take, Ok}
 use Rattle.lists.specs.Lists.{every}
 use Rattle.refusal.specs.declared.Refusal.{Refusal}
-use Rattle.sentence.specs.declared.Read.{Read}
-use Rattle.sentence.specs.declared.Read.TheVariants.{Sentence}
-use Rattle.sentence.specs.declared.Written.TheVariants.{Length}
 use Rattle.sentence.specs.Sentences.{is_known, sentence_of}
 use Rattle.sentence.specs.Condition.{is_printable, heading}
 use Rattle.sentence.specs.Reading.{read_sentence}
 use Rattle.sentence.specs.Writing.{write_sentence, sentence_into}
 use Rattle.sentence_laws.specs.Meaning.{Means}
+use Rattle.refusal.specs.Refused.{Answered}
 
 -- Two different refusals, places or leads never have the same sentence.
 pub record Distinct : Type 0 where
@@ -19,15 +17,15 @@ pub record Distinct : Type 0 where
 -- What bytes are read as is what they mean, and nothing else is.
 pub record Reading : Type 0 where
   pub meant : (bytes : List ℕ) → Means bytes (read_sentence bytes)
-  pub only : (bytes : List ℕ) (a : Read) → Means bytes a → a ≡ read_sentence bytes
+  pub only : (bytes : List ℕ) (a : Answered Refusal) → Means bytes a → a ≡ read_sentence bytes
 
 -- A sentence is read back to what it came from.
 pub record ReadBack : Type 0 where
-  pub back : (r : Refusal) → is_known r ≡ true → read_sentence (sentence_of r) ≡ Sentence r
+  pub back : (r : Refusal) → is_known r ≡ true → read_sentence (sentence_of r) ≡ Ok r
 
 -- What writing wrote is read back, whatever stands after it in the output.
 pub record RoundTrip : Type 0 where
-  pub back : (r : Refusal) (out : List ℕ) (n : ℕ) → write_sentence r (length out) ≡ Length n → read_sentence (take n (sentence_into r out)) ≡ Sentence r
+  pub back : (r : Refusal) (out : List ℕ) (n : ℕ) → write_sentence r (length out) ≡ Ok n → read_sentence (take n (sentence_into r out)) ≡ Ok r
 
 -- A sentence begins with its refusal's number, in printable ASCII.
 pub record Form : Type 0 where

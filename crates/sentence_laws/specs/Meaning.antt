@@ -1,10 +1,9 @@
 -- What bytes are read as, said without a computation. "Any sentence of the list" is that of every known refusal: every number of the list with
 -- every place and lead in range.
-use Rattle.std.specs.Prelude.{true, List, ◌≡◌, ℕ, ◌≤◌, length, take}
+use Rattle.std.specs.Prelude.{true, List, ◌≡◌, ℕ, ◌≤◌, length, take, Ok, Err}
 use Rattle.refusal.specs.declared.Refusal.{Refusal}
-use Rattle.sentence.specs.declared.Read.{Read}
-use Rattle.sentence.specs.declared.Read.TheVariants.{Sentence, Refused}
 use Rattle.sentence.specs.Sentences.{is_known, sentence_of}
+use Rattle.refusal.specs.Refused.{Answered}
 
 -- the first n bytes of one text are the first n of the other
 pub record Share (n : ℕ) (x y : List ℕ) : Type 0 where
@@ -30,6 +29,6 @@ pub record IsNone (bytes : List ℕ) (q : Refusal) : Type 0 where
   pub lead : q.lead ≡ 0
 
 -- what an answer says of bytes
-abbrev pub Means : List ℕ → Read → Type 0
-Means bytes (Sentence r) = IsSentence bytes r
-Means bytes (Refused q) = IsNone bytes q
+abbrev pub Means : List ℕ → Answered Refusal → Type 0
+Means bytes (Ok r) = IsSentence bytes r
+Means bytes (Err q) = IsNone bytes q

@@ -6,15 +6,11 @@ ghost use Rattle.lists.specs.Caps.{capped};
 ghost use Rattle.told.specs.Told.{accepted_told, refusal_told, encoded_told, decoded_told, character_told, characters_told, block_told, found_told, energies_told, nowhere_told, located_told, handed_told, sent_told, written_told, read_told};
 ghost use Rattle.told.specs.Capped.{place_capped, sent_capped, heard_capped, block_capped, found_capped, energies_capped, located_capped, handed_capped, out_capped, written_capped, read_capped};
 
-use band::Located;
-use block_decoder::{BlockDecoded, Decoded};
-use block_encoder::Encoded;
+use block_decoder::BlockDecoded;
 use decision::{Character, NONE};
-use energy::{Energies, Totalled};
-use finder::{BlockFound, Finding};
-use refusal::Refusal;
-use sender::{Handed, Sent};
-use sentence::{Read, Written};
+use energy::Energies;
+use finder::BlockFound;
+use refusal::{Reason, Refusal};
 
 // number 0: accepted, and count is the tones, codes or bytes written. Else the refusal, and count is 0.
 #[repr(C)]
@@ -94,21 +90,21 @@ pub struct ReadAnswer {
     pub lead: u32,
 }
 
-pub fn encoded(answer: Encoded) -> Answer
+pub fn encoded(answer: Result<usize, Refusal>) -> Answer
     ensures { result ≡ encoded_told (sent_capped answer) }
 {
     match answer {
-        Encoded::Tones(count) => accepted(count),
-        Encoded::Refused(refusal) => refused(refusal),
+        Ok(count) => accepted(count),
+        Err(refusal) => refused(refusal),
     }
 }
 
-pub fn decoded(answer: Decoded) -> Answer
+pub fn decoded(answer: Result<usize, Refusal>) -> Answer
     ensures { result ≡ decoded_told (heard_capped answer) }
 {
     match answer {
-        Decoded::Text(count) => accepted(count),
-        Decoded::Refused(refusal) => refused(refusal),
+        Ok(count) => accepted(count),
+        Err(refusal) => refused(refusal),
     }
 }
 
@@ -131,12 +127,12 @@ pub fn found(mode: u32, found: BlockFound) -> FoundAnswer
     let decided = found.characters;
     let told = characters(decided);
     match answer {
-        Finding::Start(start) => FoundAnswer {
+        Ok(start) => FoundAnswer {
             answer: accepted(mode as usize),
             start: capped(start),
             characters: told,
         },
-        Finding::Refused(refusal) => FoundAnswer {
+        Err(refusal) => FoundAnswer {
             answer: refused(refusal),
             start: 0,
             characters: told,
@@ -150,13 +146,13 @@ pub fn energies(energies: Energies) -> EnergiesAnswer
     let answer = energies.answer;
     let sums = energies.sums;
     match answer {
-        Totalled::Total(total) => EnergiesAnswer {
+        Ok(total) => EnergiesAnswer {
             number: 0,
             place: 0,
             total,
             sums,
         },
-        Totalled::Refused(refusal) => {
+        Err(refusal) => {
             let told = refused(refusal);
             EnergiesAnswer {
                 number: told.number,
@@ -168,7 +164,7 @@ pub fn energies(energies: Energies) -> EnergiesAnswer
     }
 }
 
-pub fn located(located: Located) -> LocatedAnswer
+pub fn located(located: Result<Heard, Refusal>) -> LocatedAnswer
     ensures { result ≡ located_told (located_capped located) }
 {
     match located {
@@ -178,9 +174,9 @@ pub fn located(located: Located) -> LocatedAnswer
             tone: tone as u32,
             hertz_off,
         },
-        Located::NotFinite => nowhere(Refusal::at(refusal::NOT_FINITE, 0)),
-        Located::OutsideBand => nowhere(Refusal::at(refusal::OUTSIDE_BAND, 0)),
-        Located::Refused(refusal) => nowhere(refusal),
+        Located::NotFinite => nowhere(Refusal::at(Reason::NotFinite, 0)),
+        Located::OutsideBand => nowhere(Refusal::at(Reason::OutsideBand, 0)),
+        Err(refusal) => nowhere(refusal),
     }
 }
 
@@ -197,17 +193,17 @@ fn nowhere(refusal: Refusal) -> LocatedAnswer
 }
 
 // A block that is handed in writes nothing yet, so that its count is 0.
-pub fn handed(answer: Handed) -> Answer
+pub fn handed(answer: Result<(), Refusal>) -> Answer
     ensures { result ≡ handed_told (handed_capped answer) }
 {
     match answer {
-        Handed::Taken => accepted(0),
-        Handed::Refused(refusal) => refused(refusal),
+        Ok(()) => accepted(0),
+        Err(refusal) => refused(refusal),
     }
 }
 
 // The count tells a block from none waiting.
-pub fn sent(answer: Sent) -> SentAnswer
+pub fn sent(answer: Result<Option<Served>, Refusal>) -> SentAnswer
     ensures { result ≡ sent_told (out_capped answer) }
 {
     match answer {
@@ -216,12 +212,12 @@ pub fn sent(answer: Sent) -> SentAnswer
             depot,
             mode,
         },
-        Sent::NoneWaiting => SentAnswer {
+        Ok(None) => SentAnswer {
             answer: accepted(0),
             depot: 0,
             mode: 0,
         },
-        Sent::Refused(refusal) => SentAnswer {
+        Err(refusal) => SentAnswer {
             answer: refused(refusal),
             depot: 0,
             mode: 0,
@@ -229,24 +225,24 @@ pub fn sent(answer: Sent) -> SentAnswer
     }
 }
 
-pub fn written(answer: Written) -> Answer
+pub fn written(answer: Result<usize, Refusal>) -> Answer
     ensures { result ≡ written_told (written_capped answer) }
 {
     match answer {
-        Written::Length(count) => accepted(count),
-        Written::Refused(refusal) => refused(refusal),
+        Ok(count) => accepted(count),
+        Err(refusal) => refused(refusal),
     }
 }
 
-pub fn read(answer: Read) -> ReadAnswer
+pub fn read(answer: Result<Refusal, Refusal>) -> ReadAnswer
     ensures { result ≡ read_told (read_capped answer) }
 {
     match answer {
-        Read::Sentence(refusal) => {
+        Ok(refusal) => {
             let told = refused(refusal);
             said(accepted(0), told.number, told.place, told.lead)
         }
-        Read::Refused(refusal) => said(refused(refusal), 0, 0, 0),
+        Err(refusal) => said(refused(refusal), 0, 0, 0),
     }
 }
 

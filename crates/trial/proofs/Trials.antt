@@ -12,7 +12,6 @@ use Rattle.refusal.specs.Checks.{is_mode}
 use Rattle.chain.specs.Chain.{tones_of}
 use Rattle.chain.proofs.Tones.{tones_length}
 use Rattle.block_encoder.specs.Encoding.{first_bad_code, encode_block, sent_into, encoded_into, count_sent, on_air}
-use Rattle.block_encoder.specs.declared.Encoded.{Encoded}
 use Rattle.block_decoder.specs.Decoding.{decode_block, decoded_into}
 use Rattle.block_decoder.specs.declared.BlockDecoded.{BlockDecoded}
 use Rattle.demands.specs.Demand.{missing_in, replaced_in}
@@ -20,12 +19,13 @@ use Rattle.demands.specs.Laws.{air}
 use Rattle.demands.proofs.Sent.{sends, air_sent}
 use Rattle.demands.proofs.Demands.{demand3}
 use Rattle.trial.specs.Tried.{trial_of, Tried}
+use Rattle.refusal.specs.Refused.{Answered}
 
 -- the tones written are within the output
 pub sent_fits : (b : ℕ) (text tones : List ℕ) → count_sent (encode_block b text (length tones)) ≤ length (encoded_into b text tones)
 unfolding encode_block encoded_into sent_into
 sent_fits b text tones =
-    let P : Encoded → Type 0 = λ e. count_sent e ≤ length (sent_into e (tones_of b text) tones) in
+    let P : Answered ℕ → Type 0 = λ e. count_sent e ≤ length (sent_into e (tones_of b text) tones) in
     cond_cases P (not (is_mode b)) _ _ (λ _. zero-le) (λ _.
     cond_cases P (not (eqb (length text) b)) _ _ (λ _. zero-le) (λ _.
     cond_cases P (ltb (length tones) 64) _ _ (λ _. zero-le) (λ _.
@@ -33,7 +33,7 @@ sent_fits b text tones =
     omega (arith, over_fits (tones_of b text) tones, tones_length b text)))))
 
 module _
-    (b m : ℕ) (text heard tones one two tones' one' two' : List ℕ) (sent : Encoded) (first second : BlockDecoded) (n r u : ℕ)
+    (b m : ℕ) (text heard tones one two tones' one' two' : List ℕ) (sent : Answered ℕ) (first second : BlockDecoded) (n r u : ℕ)
     (encoded : (sent ≡ encode_block b text (length tones)) × (tones' ≡ encoded_into b text tones))
     (count : n ≡ count_sent sent)
     (replaced : r ≡ replaced_in (take n tones') heard)

@@ -10,7 +10,6 @@ use Rattle.lists.specs.Caps.{capped}
 use Rattle.lists.proofs.Sums.{total_within}
 use Rattle.weight_range.specs.Range.{HasWeights, throughout}
 use Rattle.block_encoder.specs.Encoding.{encode_block, encoded_into, count_sent, on_air}
-use Rattle.block_encoder.specs.declared.Encoded.{Encoded}
 use Rattle.block_decoder.specs.Decoding.{decode_weighted, weighted_into}
 use Rattle.block_decoder.specs.declared.BlockDecoded.{BlockDecoded}
 use Rattle.demands.specs.Demand.{is_missing, is_replaced, damage_at, damage_in}
@@ -18,6 +17,7 @@ use Rattle.demands.specs.Laws.{air}
 use Rattle.demands.proofs.Sent.{sends, air_sent}
 use Rattle.weighted_demands.proofs.Demands.{weighted_demand3}
 use Rattle.trial.specs.WeightedTried.{weighted_trial_of, WeightedTried}
+use Rattle.refusal.specs.Refused.{Answered}
 
 -- ---- D of 64 tones is told as it is
 
@@ -42,7 +42,7 @@ damage_told sent heard weights n h =
 -- ---- the promise
 
 module _
-    (b m : ℕ) (text heard weights tones one two tones' one' two' full : List ℕ) (sent : Encoded) (first second : BlockDecoded) (n d : ℕ)
+    (b m : ℕ) (text heard weights tones one two tones' one' two' full : List ℕ) (sent : Answered ℕ) (first second : BlockDecoded) (n d : ℕ)
     (encoded : (sent ≡ encode_block b text (length tones)) × (tones' ≡ encoded_into b text tones))
     (count : n ≡ count_sent sent)
     (damaged : d ≡ capped (damage_in 15 (take n tones') heard weights))

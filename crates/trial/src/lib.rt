@@ -7,7 +7,6 @@ ghost use Rattle.trial.specs.Tried.{Tried};
 ghost use Rattle.trial.specs.WeightedTried.{WeightedTried};
 
 use block_decoder::GREATEST_WEIGHT;
-use block_encoder::Encoded;
 use demands::Trial;
 use weighted_demands::WeightedTrial;
 
@@ -68,11 +67,11 @@ pub fn run_weighted(
     }
 }
 
-fn sent_count(encoded: Encoded) -> usize
+fn sent_count(encoded: Result<usize, Refusal>) -> usize
     ensures { result ≡ count_sent encoded }
 {
     match encoded {
-        Encoded::Tones(count) => count,
-        Encoded::Refused(_) => 0,
+        Ok(count) => count,
+        Err(_) => 0,
     }
 }

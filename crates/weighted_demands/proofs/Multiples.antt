@@ -16,7 +16,7 @@ use Rattle.lists.proofs.Places.{first_ext}
 use Rattle.lists.proofs.Sums.{sum_ext}
 use Rattle.lists.proofs.Tables.{tab_ext, tab_map}
 use Rattle.refusal.specs.Checks.{is_mode, is_lead_at}
-use Rattle.refusal.specs.Refused.{unclear_at}
+use Rattle.refusal.specs.Refused.{Answered, unclear_at}
 use Rattle.refusal.proofs.Limits.{within_true, below_low, above_high}
 use Rattle.walsh.specs.Words.{minus, signed, turned, corr}
 use Rattle.decision.specs.Decision.{none}
@@ -30,12 +30,11 @@ use Rattle.tone_range.specs.Range.{first_bad_tone}
 use Rattle.weight_range.specs.Range.{throughout, first_bad_weight}
 use Rattle.weight_range.proofs.Ranges.{weights_in_range, has_throughout}
 use Rattle.block_decoder.specs.Decoding.{plain, symbols_of, count_of, count_in, weighted_at, weighted_of, codes_of, lead_in, first_unclear, unless_unclear, padded, refused, heard_block, heard_into, heard_block_into}
-use Rattle.block_decoder.specs.declared.Decoded.{Decoded}
-use Rattle.block_decoder.specs.declared.Decoded.TheVariants.{Text, Refused}
 use Rattle.block_decoder.specs.declared.BlockDecoded.{BlockDecoded}
 use Rattle.block_decoder.proofs.Characters.{codes_are}
 use Rattle.block_decoder.proofs.DecodeCases.{judged}
 use Rattle.weighted_demands.specs.Laws.{times_answer, times_block, PlainCase}
+use Rattle.std.proofs.Common.{Ok, Err}
 
 -- each weight k times as large
 abbrev pub times_weights : ℕ → List ℕ → List ℕ
@@ -150,15 +149,15 @@ module _ (k : ℕ) (low : 1 ≤ k) where
         rw (length-map characters (times_character k))
         (first_ext _ _ (length characters) (λ q l. ap (λ (n : ℕ). ltb n (k * m)) (lead_times q) ∙ ltb_times (lead_in characters q) m))
 
-    judgement_times : (b m : ℕ) → unless_unclear (k * m) larger (Text b) ≡ times_answer k (unless_unclear m characters (Text b))
+    judgement_times : (b m : ℕ) → unless_unclear (k * m) larger (Ok b) ≡ times_answer k (unless_unclear m characters (Ok b))
     unfolding unless_unclear
     judgement_times b m =
         rw (unclear_times m, length-map characters (times_character k), lead_times (first_unclear m characters))
         (by (ltb (first_unclear m characters) (length characters)))
       where
         by : (u : Bool)
-            → cond u (Refused (unclear_at (first_unclear m characters) (k * lead_in characters (first_unclear m characters)))) (Text b)
-            ≡ times_answer k (cond u (Refused (unclear_at (first_unclear m characters) (lead_in characters (first_unclear m characters)))) (Text b))
+            → cond u (Err (unclear_at (first_unclear m characters) (k * lead_in characters (first_unclear m characters)))) (Ok b)
+            ≡ times_answer k (cond u (Err (unclear_at (first_unclear m characters) (lead_in characters (first_unclear m characters)))) (Ok b))
         by true = refl
         by false = refl
 
@@ -171,7 +170,7 @@ module _ (k : ℕ) (low : 1 ≤ k) where
   refused_times : (number place : ℕ) → refused number place ≡ times_block k (refused number place)
   unfolding refused times_block
   refused_times number place =
-      λ i. record { answer = Refused (record { number = number; place = place; lead = sym (mul-zero k) i }); characters = sym nones_times i }
+      λ i. record { answer = Err (record { number = number; place = place; lead = sym (mul-zero k) i }); characters = sym nones_times i }
 
   -- one check of the answer
   check_times : (u : Bool) (number place : ℕ) (x y : BlockDecoded) → x ≡ times_block k y → cond u (refused number place) x ≡ times_block k (cond u (refused number place) y)
@@ -192,10 +191,10 @@ module _ (k : ℕ) (low : 1 ≤ k) where
       (check_times (ltb (first_bad_weight N weights) 64) 14 (first_bad_weight N weights) _ _
       (ap (judged b (k * m)) (characters_times b tones weights) ∙ judged_times (weighted_of b tones weights) b m))))))))
 
-  into_times : (answer : Decoded) (codes out : List ℕ) → heard_into (times_answer k answer) codes out ≡ heard_into answer codes out
+  into_times : (answer : Answered ℕ) (codes out : List ℕ) → heard_into (times_answer k answer) codes out ≡ heard_into answer codes out
   unfolding heard_into
-  into_times (Text n) codes out = refl
-  into_times (Refused r) codes out = refl
+  into_times (Ok n) codes out = refl
+  into_times (Err r) codes out = refl
 
   pub heard_into_times : (N b m : ℕ) (tones weights out : List ℕ)
       → heard_block_into (k * N) b (k * m) tones (times_weights k weights) out ≡ heard_block_into N b m tones weights out

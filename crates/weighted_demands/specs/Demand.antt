@@ -1,13 +1,12 @@
 -- Demand 3 with weights, document 02's order 3, said of the answers and outputs of three calls: a text is encoded, decoded with weight 15
 -- throughout, and decoded with other weights from what was heard of it. Names are as in `demands/specs/Demand`.
-use Rattle.std.specs.Prelude.{◌≡◌, true, List, ◌⊎◌, ℕ, ◌+◌, ◌*◌, ◌<◌, ◌≤◌, ◌^◌, length}
+use Rattle.std.specs.Prelude.{◌≡◌, true, List, ◌⊎◌, ℕ, ◌+◌, ◌*◌, ◌<◌, ◌≤◌, ◌^◌, length, Ok}
 use Rattle.lists.specs.Lists.{over}
 use Rattle.refusal.specs.Checks.{is_mode, is_lead_at}
 use Rattle.chain.specs.Chain.{tones_of}
 use Rattle.tone_range.specs.Range.{HasTones}
 use Rattle.weight_range.specs.Range.{HasWeights, throughout}
 use Rattle.block_encoder.specs.Encoding.{IsText, encode_block, encoded_into}
-use Rattle.block_encoder.specs.declared.Encoded.TheVariants.{Tones}
 use Rattle.block_decoder.specs.Decoding.{decode_weighted, weighted_into}
 use Rattle.demands.specs.Demand.{damage_in, Gives, RefusesAsUnclear}
 use Rattle.weighted_demands.specs.declared.WeightedTrial.{WeightedTrial}
@@ -33,7 +32,7 @@ pub record WeightedCovered (b m : ℕ) (text heard weights tones one two : List 
 
 -- of the three answers with D, and of the three outputs
 pub record MeetsWeightedDemand3 (b m : ℕ) (text : List ℕ) (t : WeightedTrial) (tones tones' one one' two two' : List ℕ) : Type 0 where
-  pub accepted : t.encoded ≡ Tones 64
+  pub accepted : t.encoded ≡ Ok 64
   pub sent : tones' ≡ over (tones_of b text) tones
   pub first : Gives b text t.first one one'
   pub same : m + 2 * t.damage ≤ 960 → Gives b text t.second two two'

@@ -1,5 +1,5 @@
 -- The laws of hearing with weights. Each is the promise of the function of the same name in src/laws.rt.
-use Rattle.std.specs.Prelude.{◌≡◌, List, map, ◌⊎◌, ℕ, ◌*◌, ◌<◌, ◌≤◌, ◌^◌, pos, nat_abs, ◌*ℤ◌, length}
+use Rattle.std.specs.Prelude.{◌≡◌, List, map, ◌⊎◌, ℕ, ◌*◌, ◌<◌, ◌≤◌, ◌^◌, pos, nat_abs, ◌*ℤ◌, length, Ok, Err}
 use Rattle.lists.specs.Lists.{num}
 use Rattle.walsh.specs.Words.{corr}
 use Rattle.scaling.specs.Scaled.{times_character}
@@ -7,18 +7,17 @@ use Rattle.chain.specs.Chain.{missing_mark}
 use Rattle.tone_range.specs.Range.{HasTones}
 use Rattle.weight_range.specs.Range.{HasWeights, throughout}
 use Rattle.block_decoder.specs.Decoding.{plain, symbols_of, count_in, weighted_at, decode_block, decode_weighted, decoded_into, weighted_into}
-use Rattle.block_decoder.specs.declared.Decoded.{Decoded}
-use Rattle.block_decoder.specs.declared.Decoded.TheVariants.{Text, Refused}
 use Rattle.block_decoder.specs.declared.BlockDecoded.{BlockDecoded}
 use Rattle.demands.specs.Laws.{Precisely}
 use Rattle.weighted_demands.specs.Demand.{IsWeightedSet}
+use Rattle.refusal.specs.Refused.{Answered}
 
 -- ---- plain hearing as a case of hearing with weights
 
 -- an answer whose lead is k times as large
-abbrev pub times_answer : ℕ → Decoded → Decoded
-times_answer k (Text n) = Text n
-times_answer k (Refused r) = Refused (record { number = r.number; place = r.place; lead = k * r.lead })
+abbrev pub times_answer : ℕ → Answered ℕ → Answered ℕ
+times_answer k (Ok n) = Ok n
+times_answer k (Err r) = Err (record { number = r.number; place = r.place; lead = k * r.lead })
 
 -- and its characters with it
 unfoldable pub times_block : ℕ → BlockDecoded → BlockDecoded

@@ -2,14 +2,13 @@
 #![tactic(auto)]
 
 use block_decoder::BlockDecoded;
-use block_encoder::Encoded;
 
 pub mod laws;
 
 // The answers of the three calls, and document 02's D.
 #[derive(Clone, Copy)]
 pub struct WeightedTrial {
-    pub encoded: Encoded,
+    pub encoded: Result<usize, Refusal>,
     pub first: BlockDecoded,
     pub second: BlockDecoded,
     pub damage: u32,

@@ -3,29 +3,28 @@ use mathlib.Core.Bool.{true}
 use Prim.Native.Nat.{ℕ, ◌%◌, ◌^◌}
 use lib.Ieee.{Float, binary64, sub}
 use lib.Ieee.Scale.{finite}
-use Rattle.refusal.specs.Refused.{refused_at}
+use Rattle.refusal.specs.Refused.{Answered, refused_at}
 use Rattle.band.specs.Limits.{fault}
 use Rattle.band.specs.Locating.{in_band, heard_as, located_of, refusal_of, locate_fault}
 use Rattle.band.specs.Internal.{holds_in}
 use Rattle.band.specs.declared.Band.{Band}
-use Rattle.band.specs.declared.Located.{Located}
-use Rattle.band.specs.declared.Located.TheVariants as located
 use Rattle.band.proofs.Settings.{passed}
 use Rattle.band.proofs.Formulas.{tone_hertz_exact}
 use Rattle.band.proofs.Owners.{owner_owns}
 use Rattle.band.proofs.Locating.{held, from_first, owner_found, located_refused, located_not_finite, located_outside, located_heard, numbered}
+use Rattle.std.proofs.Common.{Err}
 use Rattle.band.proofs.locate.Goals as goal
 use Rattle.band.proofs.locate.Goals.{Else-number-ne-NONE, Else-not-is_finite, After-holds, Else-not-holds}
 
 -- an answer, and the paper's number of it
-told : (b w c : ℕ) (x : Float) (r : Located) → r ≡ located_of b w c x → refusal_of r ≡ refused_at (locate_fault b w c x) 0
+told : (b w c : ℕ) (x : Float) (r : Answered Heard) → r ≡ located_of b w c x → refusal_of r ≡ refused_at (locate_fault b w c x) 0
 told b w c x r e = ap refusal_of e ∙ numbered b w c x
 
 pub returns-then-number-ne-NONE : goal.returns-then-number-ne-NONE
 returns-then-number-ne-NONE c =
     let number = c.fault-number in
     let a = c.args in
-    let e : located.Refused c.at.result ≡ located_of a.mode a.width a.centre a.hertz =
+    let e : Err c.at.result ≡ located_of a.mode a.width a.centre a.hertz =
     rw (c.at.ensures, number.ensures) (located_refused _ _ _ _ (λ e. c.if-number-ne-NONE.true (number.ensures ∙ e))) in
     record { answer = e; refusal = told _ _ _ _ _ e }
 
@@ -78,7 +77,7 @@ returns c =
     let settings = right band.before.before.before in
     let owner = owner_found _ _ _ _ settings c.owner-tone.result (rw band.band_of-band.ensures at c.owner-tone.ensures) in
     let few = (owner_owns _ _ _ _ settings (is_in_band inside)).0 in
-    let e : located.Heard c.owner-tone.result (sub binary64 a.hertz c.hertz.result) ≡ located_of a.mode a.width a.centre a.hertz =
+    let e : HEARD c.owner-tone.result (sub binary64 a.hertz c.hertz.result) ≡ located_of a.mode a.width a.centre a.hertz =
     rw (c.hertz.ensures, band.band_of-band.ensures, owner, tone_hertz_exact _ _ _ settings _ few)
     (located_heard _ _ _ _ settings (is_finite band.before) (is_in_band inside)) in
     record { answer = e; refusal = told _ _ _ _ _ e }

@@ -13,11 +13,12 @@ use Rattle.weight_range.proofs.Ranges.{in_range_weights, fewer_weights}
 use Rattle.chain.proofs.Values.{mode_values}
 use Rattle.block_decoder.specs.Decoding.{weighted_of, padded, refused, heard_block, heard_into}
 use Rattle.block_decoder.specs.Internal.{seen_to}
-use Rattle.block_decoder.specs.declared.Decoded.{Decoded}
-use Rattle.block_decoder.specs.declared.Decoded.TheVariants.{Text}
 use Rattle.block_decoder.specs.declared.BlockDecoded.{BlockDecoded}
 use Rattle.block_decoder.proofs.Seen.{seen_none, seen_found}
 use Rattle.block_decoder.proofs.DecodeCases.{Passed, refuses_mode, refuses_lead, refuses_count, refuses_weights, refuses_room, refuses_tone, refuses_weight, judges, same_decoded, refusal_told_lem, accepted, codes_put}
+use Rattle.std.proofs.Common.{Ok}
+use Rattle.refusal.specs.declared.Reason.{Reason}
+use Rattle.refusal.specs.Refused.{Answered}
 use Rattle.block_decoder.proofs.hear.Goals as goal
 use Rattle.block_decoder.proofs.hear.Goals.{Else-not-is_mode, Else-not-is_lead_at, Else-room-b, After-tone_count, After-look-bad, After-first_bad_weight-bad_weight, Else-bad_weight-lt64, After-decide-characters, After-judge-answer}
 
@@ -78,11 +79,11 @@ range c =
 
 pub returns-then-bad-lt64 : goal.returns-then-bad-lt64
 returns-then-bad-lt64 c =
-    let both = refusal_told_lem _ _ _ _ _ _ _ _ _ _ (c.refused-then-bad-lt64.ensures ∙ ap (refused 8) (range (goal.at.returns-then-bad-lt64 c).After-look-bad)) (refuses_tone _ _ _ _ _ _ (passed (goal.at.returns-then-bad-lt64 c).Else-room-b) (rw (range (goal.at.returns-then-bad-lt64 c).After-look-bad) at c.if-bad-lt64.true)) in record { answer = both.0; output = both.1 }
+    let both = refusal_told_lem _ _ _ _ _ _ _ _ _ _ (c.refused-then-bad-lt64.ensures ∙ ap (refused Reason.Tone) (range (goal.at.returns-then-bad-lt64 c).After-look-bad)) (refuses_tone _ _ _ _ _ _ (passed (goal.at.returns-then-bad-lt64 c).Else-room-b) (rw (range (goal.at.returns-then-bad-lt64 c).After-look-bad) at c.if-bad-lt64.true)) in record { answer = both.0; output = both.1 }
 
 pub returns-then-bad_weight-lt64 : goal.returns-then-bad_weight-lt64
 returns-then-bad_weight-lt64 c =
-    let both = refusal_told_lem _ _ _ _ _ _ _ _ _ _ (c.refused-then-bad_weight-lt64.ensures ∙ ap (refused 14) c.first_bad_weight-bad_weight.ensures)
+    let both = refusal_told_lem _ _ _ _ _ _ _ _ _ _ (c.refused-then-bad_weight-lt64.ensures ∙ ap (refused Reason.Weight) c.first_bad_weight-bad_weight.ensures)
     (refuses_weight _ _ _ _ _ _ (passed (goal.at.returns-then-bad_weight-lt64 c).Else-room-b) (rw (range (goal.at.returns-then-bad_weight-lt64 c).After-look-bad) at c.if-bad-lt64.false) (rw c.first_bad_weight-bad_weight.ensures at c.if-bad_weight-lt64.true)) in record { answer = both.0; output = both.1 }
 
 pub heard_weights-heard-requires : goal.heard_weights-heard-requires
@@ -146,7 +147,7 @@ decided c =
     ∙ sym (judges _ _ _ _ _ _ (passed) (rw (range) at c.if-bad-lt64.false) (rw c.first_bad_weight-bad_weight.ensures at c.if-bad_weight-lt64.false))
 
 -- its answer alone, where it is a text
-accepted_text : (c : After-judge-answer) {n : ℕ} → c.judge-answer.result ≡ Text n → let a = c.args in (heard_block a.greatest a.mode a.least_lead a.tones.now a.weights.now a.room).answer ≡ Text n
+accepted_text : (c : After-judge-answer) {n : ℕ} → c.judge-answer.result ≡ Ok n → let a = c.args in (heard_block a.greatest a.mode a.least_lead a.tones.now a.weights.now a.room).answer ≡ Ok n
 accepted_text c e =
     let mode_known : is_mode c.args.mode ≡ true = sym c.is_mode.ensures ∙ c.if-not-is_mode.false in
     let lead_known : let a = c.args in is_lead_at a.greatest a.least_lead ≡ true = sym c.is_lead_at.ensures ∙ c.if-not-is_lead_at.false in
@@ -166,15 +167,15 @@ accepted_text c e =
 
 pub put_codes-requires : goal.put_codes-requires
 put_codes-requires c =
-    let told = accepted _ _ _ _ _ _ _ (accepted_text (goal.at.put_codes-requires c).After-judge-answer c.in-Text.is) in
-    let few : c.in-Text.count ≤ 8 = omega (arith, told.whole, (mode_range c.args.mode told.passed.mode).1) in
+    let told = accepted _ _ _ _ _ _ _ (accepted_text (goal.at.put_codes-requires c).After-judge-answer c.in-Ok.is) in
+    let few : c.in-Ok.count ≤ 8 = omega (arith, told.whole, (mode_range c.args.mode told.passed.mode).1) in
     (omega (arith, few), omega (arith, c.requires.1 _ few (omega (arith, told.whole, told.passed.fits))))
 
-pub returns-in-Text : goal.returns-in-Text
-returns-in-Text c =
-    let e = c.in-Text.is in record { answer = ap (λ (x : Decoded). record { answer = x; characters = c.decide-characters.result }) (sym e) ∙ decided (goal.at.returns-in-Text c).After-judge-answer; output = (codes_put _ _ _ _ _ _ _ _ _ _ (accepted_text (goal.at.returns-in-Text c).After-judge-answer e) (found (goal.at.returns-in-Text c).After-decide-characters) c.put_codes.ensures) }
+pub returns-in-Ok : goal.returns-in-Ok
+returns-in-Ok c =
+    let e = c.in-Ok.is in record { answer = ap (λ (x : Answered ℕ). record { answer = x; characters = c.decide-characters.result }) (sym e) ∙ decided (goal.at.returns-in-Ok c).After-judge-answer; output = (codes_put _ _ _ _ _ _ _ _ _ _ (accepted_text (goal.at.returns-in-Ok c).After-judge-answer e) (found (goal.at.returns-in-Ok c).After-decide-characters) c.put_codes.ensures) }
 
-pub returns-in-Refused : goal.returns-in-Refused
+pub returns-in-Err : goal.returns-in-Err
 unfolding heard_into
-returns-in-Refused c =
-    record { answer = decided (goal.at.returns-in-Refused c).After-judge-answer; output = rw (ap (λ (x : BlockDecoded). x.answer) (sym (decided (goal.at.returns-in-Refused c).After-judge-answer)) ∙ c.in-Refused.is) }
+returns-in-Err c =
+    record { answer = decided (goal.at.returns-in-Err c).After-judge-answer; output = rw (ap (λ (x : BlockDecoded). x.answer) (sym (decided (goal.at.returns-in-Err c).After-judge-answer)) ∙ c.in-Err.is) }

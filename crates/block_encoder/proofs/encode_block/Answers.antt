@@ -5,6 +5,7 @@ use lib.ListN.{length}
 use Rattle.refusal.specs.Refused.{refused_at}
 use Rattle.refusal.specs.Checks.{is_mode}
 use Rattle.block_encoder.proofs.EncodeCases.{refuses_mode, refuses_count, refuses_room, refuses_code, encodes, tones_written, refusal_told_lem}
+use Rattle.refusal.specs.declared.Reason.{Reason}
 use Rattle.block_encoder.proofs.encode_block.Goals as goal
 use Rattle.block_encoder.proofs.encode_block.Goals.{Else-not-is_mode}
 
@@ -32,9 +33,9 @@ pub returns-then-bad-b : goal.returns-then-bad-b
 returns-then-bad-b c =
     let f = c.before.before in
     let e = f.before in record {
-      answer = (refusal_told_lem _ _ _ (c.at-then-bad-b.ensures ∙ ap (refused_at 6) f.first_bad_code-bad.ensures)
+      answer = (refusal_told_lem _ _ _ (c.at-then-bad-b.ensures ∙ ap (refused_at Reason.Code) f.first_bad_code-bad.ensures)
           (refuses_code _ _ _ (mode_known (goal.at.returns-then-bad-b c).Else-not-is_mode) e.if-codes-b.false e.if-tones-lt64.false (rw f.first_bad_code-bad.ensures at c.if-bad-b.true))).0;
-      output = (refusal_told_lem _ _ _ (c.at-then-bad-b.ensures ∙ ap (refused_at 6) f.first_bad_code-bad.ensures)
+      output = (refusal_told_lem _ _ _ (c.at-then-bad-b.ensures ∙ ap (refused_at Reason.Code) f.first_bad_code-bad.ensures)
           (refuses_code _ _ _ (mode_known (goal.at.returns-then-bad-b c).Else-not-is_mode) e.if-codes-b.false e.if-tones-lt64.false (rw f.first_bad_code-bad.ensures at c.if-bad-b.true))).1;
     }
 

@@ -12,8 +12,8 @@ returns-then-out-lt-ROOM c = let all = put_short _ _ c.if-out-lt-ROOM.true in re
 pub put_characters-requires : goal.put_characters-requires
 put_characters-requires c = omega (arith, c.at_most_eight.ensures)
 
-pub returns-in-Text : goal.returns-in-Text
-returns-in-Text c =
+pub returns-in-Ok : goal.returns-in-Ok
+returns-in-Ok c =
     let e = c.at_most_eight.ensures in
     let all = put_fitting
     _
@@ -21,9 +21,9 @@ returns-in-Text c =
     c.if-out-lt-ROOM.false
     (put_as
     _
-    (text_accepted _ _ _ c.in-Text.is ∙ ap (characters_text _ _) (sym e))
+    (text_accepted _ _ _ c.in-Ok.is ∙ ap (characters_text _ _) (sym e))
     (c.put_characters.ensures.answer, c.put_characters.ensures.output)) in record { answer = all.0; output = all.1 }
 
-pub returns-in-Refused : goal.returns-in-Refused
-returns-in-Refused c =
-    let all = put_fitting _ _ c.if-out-lt-ROOM.false (put_as _ (text_refusal _ _ _ c.in-Refused.is) (c.put_refusal.ensures.answer, c.put_refusal.ensures.output)) in record { answer = all.0; output = all.1 }
+pub returns-in-Err : goal.returns-in-Err
+returns-in-Err c =
+    let all = put_fitting _ _ c.if-out-lt-ROOM.false (put_as _ (text_refusal _ _ _ c.in-Err.is) (c.put_refusal.ensures.answer, c.put_refusal.ensures.output)) in record { answer = all.0; output = all.1 }

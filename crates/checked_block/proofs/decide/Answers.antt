@@ -11,11 +11,11 @@ use Rattle.refusal.proofs.Limits.{mode_range, mode_tones}
 use Rattle.chain.proofs.Values.{mode_values}
 use Rattle.block_decoder.specs.Decoding.{characters_of, lead_in, padded, heard_into}
 use Rattle.block_decoder.specs.Internal.{first_unclear_in}
-use Rattle.block_decoder.specs.declared.Decoded.TheVariants.{Refused}
 use Rattle.checked_block.specs.Checked.{tones_below}
 use Rattle.checked_block.specs.Internal.{weights_below}
 use Rattle.checked_block.proofs.CheckedCounts.{symbols_none, same_found}
 use Rattle.checked_block.proofs.Decisions.{unclear_told, clear_told, text_put}
+use Rattle.std.proofs.Common.{Err}
 use Rattle.checked_block.proofs.decide.Goals as goal
 use Rattle.checked_block.proofs.decide.Goals.{After-decide-characters}
 
@@ -44,7 +44,7 @@ unfolding heard_into
 returns-then-character-least_lead c =
     let a = c.args in
     let inside = c.loop-q-test.true in
-    let here = sym c.loop-q.invariant.2 ∙ scan_hit _ c.loop-q.q _ inside (lt-ltb (lead_in c.decide-characters.result c.loop-q.q) a.least_lead c.if-character-least_lead.true) in record { answer = ap Refused c.unclear.ensures ∙ sym (unclear_told a.mode a.least_lead _ c.decide-characters.result (found (goal.at.returns-then-character-least_lead c).After-decide-characters) c.loop-q.q inside here); output = refl }
+    let here = sym c.loop-q.invariant.2 ∙ scan_hit _ c.loop-q.q _ inside (lt-ltb (lead_in c.decide-characters.result c.loop-q.q) a.least_lead c.if-character-least_lead.true) in record { answer = ap Err c.unclear.ensures ∙ sym (unclear_told a.mode a.least_lead _ c.decide-characters.result (found (goal.at.returns-then-character-least_lead c).After-decide-characters) c.loop-q.q inside here); output = refl }
 
 pub loop-q-preserved : goal.loop-q-preserved
 loop-q-preserved c =

@@ -4,10 +4,11 @@ use native.Mathlib.Omega.{arith}
 use lib.ListN.{length}
 use Rattle.lists.specs.Places.{first}
 use Rattle.refusal.specs.Refused.{refused_at}
-use Rattle.block_decoder.specs.declared.Decoded.TheVariants.{Refused}
 use Rattle.delivery.specs.Delivery.{is_zero}
 use Rattle.delivery.proofs.TextCases.{refuses_zero, refuses_filling, refuses_long, delivers}
 use Rattle.delivery.proofs.TextEnds.{end_within}
+use Rattle.std.proofs.Common.{Err}
+use Rattle.refusal.specs.declared.Reason.{Reason}
 use Rattle.delivery.proofs.judge.Goals as goal
 use Rattle.delivery.proofs.judge.Goals.{After-text_end-n, Else-zero-n}
 
@@ -22,7 +23,7 @@ first_zero-zero-requires c = within_codes (goal.at.first_zero-zero-requires c).A
 
 pub returns-then-zero-n : goal.returns-then-zero-n
 returns-then-zero-n c =
-    ap Refused (c.at.ensures ∙ ap (refused_at 11) c.first_zero-zero.ensures)
+    ap Err (c.at.ensures ∙ ap (refused_at Reason.Zero) c.first_zero-zero.ensures)
     ∙ sym (refuses_zero _ _ _ _ c.text_end-n.ensures (rw c.first_zero-zero.ensures at c.if-zero-n.true))
 
 -- no 0 stands before the end, once that is checked
@@ -35,12 +36,12 @@ overflow_sub-codes c = within_codes (goal.at.overflow_sub-codes c).After-text_en
 pub returns-then-mode-codes : goal.returns-then-mode-codes
 returns-then-mode-codes c =
     let a = c.args in
-    ap Refused c.at-then-mode-codes.ensures
+    ap Err c.at-then-mode-codes.ensures
     ∙ sym (refuses_filling a.limit a.mode a.codes.now c.text_end-n.result c.text_end-n.ensures (no_zero_known (goal.at.returns-then-mode-codes c).Else-zero-n) (omega (arith, c.if-mode-codes.true)))
 
 pub returns-then-limit-n : goal.returns-then-limit-n
 returns-then-limit-n c =
-    ap Refused c.at-then-limit-n.ensures ∙ sym (refuses_long _ _ _ _ c.text_end-n.ensures (no_zero_known (goal.at.returns-then-limit-n c).Else-zero-n) c.if-mode-codes.false c.if-limit-n.true)
+    ap Err c.at-then-limit-n.ensures ∙ sym (refuses_long _ _ _ _ c.text_end-n.ensures (no_zero_known (goal.at.returns-then-limit-n c).Else-zero-n) c.if-mode-codes.false c.if-limit-n.true)
 
 pub returns : goal.returns
 returns c =

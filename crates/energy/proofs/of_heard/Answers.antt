@@ -16,6 +16,7 @@ use Rattle.weight_range.proofs.Ranges.{in_range_weights, fewer_weights}
 use Rattle.energy.specs.Energies.{refused}
 use Rattle.energy.proofs.EnergyCases.{Passed, refuses_mode, refuses_count, refuses_weights, refuses_tone, refuses_weight, sums_up}
 use Rattle.energy.proofs.Summed.{weights_heard, weights_few, same_summed}
+use Rattle.refusal.specs.declared.Reason.{Reason}
 use Rattle.energy.proofs.of_heard.Goals as goal
 use Rattle.energy.proofs.of_heard.Goals.{Else-not-is_mode, Else-weights-ne64, After-check-range, Else-range-lt64, Else-bad_weight-lt64}
 
@@ -51,7 +52,7 @@ range c =
 
 pub returns-then-range-lt64 : goal.returns-then-range-lt64
 returns-then-range-lt64 c =
-    c.refused-then-range-lt64.ensures ∙ ap (refused 8) (range (goal.at.returns-then-range-lt64 c).After-check-range) ∙ sym (refuses_tone _ _ _ _ (passed (goal.at.returns-then-range-lt64 c).Else-weights-ne64) (rw (range (goal.at.returns-then-range-lt64 c).After-check-range) at c.if-range-lt64.true))
+    c.refused-then-range-lt64.ensures ∙ ap (refused Reason.Tone) (range (goal.at.returns-then-range-lt64 c).After-check-range) ∙ sym (refuses_tone _ _ _ _ (passed (goal.at.returns-then-range-lt64 c).Else-weights-ne64) (rw (range (goal.at.returns-then-range-lt64 c).After-check-range) at c.if-range-lt64.true))
 
 -- no tone is bad
 in_range : (c : Else-range-lt64) → let a = c.args in 64 ≤ first_bad_tone (2 ^ a.mode) a.tones.now
@@ -66,7 +67,7 @@ in_range c =
 pub returns-then-bad_weight-lt64 : goal.returns-then-bad_weight-lt64
 returns-then-bad_weight-lt64 c =
     c.refused-then-bad_weight-lt64.ensures
-    ∙ ap (refused 14) c.first_bad_weight-bad_weight.ensures
+    ∙ ap (refused Reason.Weight) c.first_bad_weight-bad_weight.ensures
     ∙ sym (refuses_weight _ _ _ _ (passed (goal.at.returns-then-bad_weight-lt64 c).Else-weights-ne64) (in_range (goal.at.returns-then-bad_weight-lt64 c).Else-range-lt64) (rw c.first_bad_weight-bad_weight.ensures at c.if-bad_weight-lt64.true))
 
 -- nor is a weight

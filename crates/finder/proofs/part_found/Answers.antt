@@ -6,8 +6,8 @@ use Rattle.finder.proofs.part_found.Goals as goal
 use Rattle.finder.proofs.part_found.Goals.{In-Start}
 
 -- the 64 tones lie within the run
-fits : (c : In-Start) → c.in-Start.start + 64 ≤ length c.args.run.now
-fits c = start_fits c.args.run.now _ _ c.in-Start.is c.requires
+fits : (c : In-Start) → c.in-Ok.start + 64 ≤ length c.args.run.now
+fits c = start_fits c.args.run.now _ _ c.in-Ok.is c.requires
 
 pub overflow_add-result : goal.overflow_add-result
 overflow_add-result c = omega (arith, fits (goal.at.overflow_add-result c).In-Start)
@@ -18,8 +18,8 @@ offset_bounds-run-start c = omega (arith, fits (goal.at.offset_bounds-run-start 
 pub slice_bounds-result-end : goal.slice_bounds-result-end
 slice_bounds-result-end c = omega (arith, fits (goal.at.slice_bounds-result-end c).In-Start)
 
-pub returns-in-Start : goal.returns-in-Start
-returns-in-Start c = is_part c.args.run c.args.block.answer c.in-Start.start c.in-Start.is
+pub returns-in-Ok : goal.returns-in-Ok
+returns-in-Ok c = is_part c.args.run c.args.block.answer c.in-Ok.start c.in-Ok.is
 
-pub returns-in-Refused : goal.returns-in-Refused
-returns-in-Refused c = no_part c.args.run c.args.block.answer c.in-Refused.field-0 c.in-Refused.is
+pub returns-in-Err : goal.returns-in-Err
+returns-in-Err c = no_part c.args.run c.args.block.answer c.in-Err.field-0 c.in-Err.is

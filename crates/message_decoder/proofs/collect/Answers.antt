@@ -10,7 +10,6 @@ use Rattle.refusal.specs.Refused.{unclear_at}
 use Rattle.refusal.specs.Checks.{IsSet}
 use Rattle.tone_range.specs.Range.{HasTones}
 use Rattle.block_decoder.specs.Decoding.{characters_of, codes_of, decode_block}
-use Rattle.block_decoder.specs.declared.Decoded.TheVariants.{Text, Refused}
 use Rattle.block_decoder.proofs.Clarity.{text_refused}
 use Rattle.checked_block.specs.Checked.{decode_checked, checked_into}
 use Rattle.checked_block.proofs.CheckedTones.{in_range}
@@ -20,6 +19,7 @@ use Rattle.message_encoder.proofs.Counts.{next_place, place_room}
 use Rattle.message_decoder.specs.Decoding.{heard_characters}
 use Rattle.message_decoder.proofs.ToneRanges.{block_has_tones}
 use Rattle.message_decoder.proofs.Hearing.{Clear, clear_heard, refused_inside, block_refused, block_clear, block_codes_lem, codes_more}
+use Rattle.std.proofs.Common.{Ok, Err}
 use Rattle.message_decoder.proofs.collect.Goals as goal
 use Rattle.message_decoder.proofs.collect.Goals.{In-loop-k, Start, After-decode-answer}
 
@@ -57,20 +57,20 @@ decision c =
     ∙ ap (λ (x : List ℕ). decode_checked c.args.mode c.args.least_lead x (length (part c.loop-k.at c.args.mode c.loop-k.codes))) (part_block c.args.tones.now c.loop-k.k)
     ∙ in_range.answer c.args.mode c.args.least_lead (block_at c.args.tones.now c.loop-k.k) (length (part c.loop-k.at c.args.mode c.loop-k.codes)) (heard)
 
-pub overflow_add-at-in-Refused : goal.overflow_add-at-in-Refused
-overflow_add-at-in-Refused c =
-    omega (arith, room (goal.at.overflow_add-at-in-Refused c).In-loop-k, refused_inside c.args.mode c.args.least_lead c.args.tones.now c.loop-k.k (part c.loop-k.at c.args.mode c.loop-k.codes) (set (goal.at.overflow_add-at-in-Refused c).Start) (heard (goal.at.overflow_add-at-in-Refused c).In-loop-k) (size (goal.at.overflow_add-at-in-Refused c).In-loop-k) c.loop-k.invariant.4 c.in-Refused.unclear (sym (decision (goal.at.overflow_add-at-in-Refused c).After-decode-answer) ∙ c.in-Refused.is))
+pub overflow_add-at-in-Err : goal.overflow_add-at-in-Err
+overflow_add-at-in-Err c =
+    omega (arith, room (goal.at.overflow_add-at-in-Err c).In-loop-k, refused_inside c.args.mode c.args.least_lead c.args.tones.now c.loop-k.k (part c.loop-k.at c.args.mode c.loop-k.codes) (set (goal.at.overflow_add-at-in-Err c).Start) (heard (goal.at.overflow_add-at-in-Err c).In-loop-k) (size (goal.at.overflow_add-at-in-Err c).In-loop-k) c.loop-k.invariant.4 c.in-Err.unclear (sym (decision (goal.at.overflow_add-at-in-Err c).After-decode-answer) ∙ c.in-Err.is))
 
-pub returns-in-Refused : goal.returns-in-Refused
-returns-in-Refused c =
-    let told = block_refused c.args.mode c.args.least_lead c.args.tones.now c.loop-k.k (part c.loop-k.at c.args.mode c.loop-k.codes) (set (goal.at.returns-in-Refused c).Start) (heard (goal.at.returns-in-Refused c).In-loop-k) (size (goal.at.returns-in-Refused c).In-loop-k) c.loop-k.invariant.4 c.args.count (Text (c.args.count * c.args.mode)) c.loop-k-test.true c.in-Refused.unclear (sym (decision (goal.at.returns-in-Refused c).After-decode-answer) ∙ c.in-Refused.is) in record { answer = ap Refused (c.unclear.ensures ∙ ap (λ (at : ℕ). unclear_at (at + c.in-Refused.unclear.place) c.in-Refused.unclear.lead) c.loop-k.invariant.1) ∙ sym told; output = λ e. absurd (text_refused (sym e)) }
+pub returns-in-Err : goal.returns-in-Err
+returns-in-Err c =
+    let told = block_refused c.args.mode c.args.least_lead c.args.tones.now c.loop-k.k (part c.loop-k.at c.args.mode c.loop-k.codes) (set (goal.at.returns-in-Err c).Start) (heard (goal.at.returns-in-Err c).In-loop-k) (size (goal.at.returns-in-Err c).In-loop-k) c.loop-k.invariant.4 c.args.count (Ok (c.args.count * c.args.mode)) c.loop-k-test.true c.in-Err.unclear (sym (decision (goal.at.returns-in-Err c).After-decode-answer) ∙ c.in-Err.is) in record { answer = ap Err (c.unclear.ensures ∙ ap (λ (at : ℕ). unclear_at (at + c.in-Err.unclear.place) c.in-Err.unclear.lead) c.loop-k.invariant.1) ∙ sym told; output = λ e. absurd (text_refused (sym e)) }
 
 pub overflow_add-at-in-loop-k : goal.overflow_add-at-in-loop-k
 overflow_add-at-in-loop-k c = omega (arith, room (goal.at.overflow_add-at-in-loop-k c).In-loop-k)
 
 pub loop-k-preserved : goal.loop-k-preserved
 loop-k-preserved c =
-    let answer = sym (decision (goal.at.loop-k-preserved c).After-decode-answer) ∙ c.in-Text.is in
+    let answer = sym (decision (goal.at.loop-k-preserved c).After-decode-answer) ∙ c.in-Ok.is in
     let put : c.decode-answer.new.codes ≡ codes_of (characters_of c.args.mode (block_at c.args.tones.now c.loop-k.k)) =
     c.decode-answer.ensures.output
     ∙ ap (λ (x : List ℕ). checked_into c.args.mode c.args.least_lead x (part c.loop-k.at c.args.mode c.loop-k.codes)) (part_block c.args.tones.now c.loop-k.k)
@@ -88,4 +88,4 @@ pub returns : goal.returns
 returns c =
     let k : c.loop-k.k ≡ c.args.count = omega arith in
     let at : c.loop-k.at ≡ c.args.count * c.args.mode = rw k at c.loop-k.invariant.1 in
-    let clear : Clear c.args.mode c.args.least_lead c.args.tones.now c.args.count = rw k at c.loop-k.invariant.4 in record { answer = ap Text at ∙ sym (clear_heard c.args.mode c.args.least_lead c.args.tones.now c.args.count (Text (c.args.count * c.args.mode)) clear); output = λ e. rw k at c.loop-k.invariant.3 }
+    let clear : Clear c.args.mode c.args.least_lead c.args.tones.now c.args.count = rw k at c.loop-k.invariant.4 in record { answer = ap Ok at ∙ sym (clear_heard c.args.mode c.args.least_lead c.args.tones.now c.args.count (Ok (c.args.count * c.args.mode)) clear); output = λ e. rw k at c.loop-k.invariant.3 }

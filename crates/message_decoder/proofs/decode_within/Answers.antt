@@ -12,13 +12,14 @@ use Rattle.refusal.proofs.Limits.{mode_range, mode_tones}
 use Rattle.tone_range.specs.Range.{first_bad_tone}
 use Rattle.tone_range.proofs.Looks.{bad_found}
 use Rattle.block_decoder.specs.Decoding.{codes_of, unless_unclear}
-use Rattle.block_decoder.specs.declared.Decoded.TheVariants.{Text}
 use Rattle.block_decoder.proofs.Clarity.{text_told, clear_told, refused_alike}
 use Rattle.message_encoder.specs.Blocks.{is_whole}
 use Rattle.message_encoder.proofs.Counts.{whole_blocks, whole_few}
 use Rattle.message_decoder.specs.Decoding.{heard_characters, message_characters}
 use Rattle.message_decoder.proofs.Hearing.{collected_fit, collected_front}
 use Rattle.message_decoder.proofs.DecodeCases.{Passed, Hearable, refuses_mode, refuses_lead, refuses_count, refuses_room, refuses_tone, judges, text_kept, refusal_told_lem, delivery_told}
+use Rattle.std.proofs.Common.{Ok}
+use Rattle.refusal.specs.declared.Reason.{Reason}
 use Rattle.message_decoder.proofs.decode_within.Goals as goal
 use Rattle.message_decoder.proofs.decode_within.Goals.{Else-not-is_mode, Else-not-is_lead, Else-not-is_whole, Else-text-total, After-check-range, Else-range-tones, After-collect-heard}
 
@@ -90,7 +91,7 @@ hearable c =
 
 pub returns-then-range-tones : goal.returns-then-range-tones
 returns-then-range-tones c =
-    let both = refusal_told_lem _ _ _ _ _ (c.at-then-range-tones.ensures ∙ ap (refused_at 8) (range (goal.at.returns-then-range-tones c).After-check-range)) (refuses_tone _ _ _ _ _ (passed (goal.at.returns-then-range-tones c).Else-text-total) (omega (arith, range (goal.at.returns-then-range-tones c).After-check-range, c.if-range-tones.true))) in record { answer = both.0; output = both.1 }
+    let both = refusal_told_lem _ _ _ _ _ (c.at-then-range-tones.ensures ∙ ap (refused_at Reason.Tone) (range (goal.at.returns-then-range-tones c).After-check-range)) (refuses_tone _ _ _ _ _ (passed (goal.at.returns-then-range-tones c).Else-text-total) (omega (arith, range (goal.at.returns-then-range-tones c).After-check-range, c.if-range-tones.true))) in record { answer = both.0; output = both.1 }
 
 pub collect-heard-requires : goal.collect-heard-requires
 collect-heard-requires c =
@@ -102,32 +103,32 @@ collect-heard-requires c =
 
 -- what was collected, by the message's characters
 judged : (c : After-collect-heard) → let a = c.args in
-    c.collect-heard.result ≡ unless_unclear a.least_lead (message_characters a.mode a.tones.now) (Text (length a.tones.now / 64 * a.mode))
+    c.collect-heard.result ≡ unless_unclear a.least_lead (message_characters a.mode a.tones.now) (Ok (length a.tones.now / 64 * a.mode))
 unfolding message_characters
 judged c = c.collect-heard.ensures.answer
 
 -- a refusal leaves the output as it was
-pub returns-in-Refused : goal.returns-in-Refused
-returns-in-Refused c =
-    let e = c.in-Refused.is in
-    let refused = judges _ _ _ _ _ (hearable (goal.at.returns-in-Refused c).Else-range-tones) ∙ refused_alike _ _ _ _ (sym (judged (goal.at.returns-in-Refused c).After-collect-heard) ∙ e) in record { answer = e ∙ sym refused; output = sym (text_kept _ _ _ _ _ refused) }
+pub returns-in-Err : goal.returns-in-Err
+returns-in-Err c =
+    let e = c.in-Err.is in
+    let refused = judges _ _ _ _ _ (hearable (goal.at.returns-in-Err c).Else-range-tones) ∙ refused_alike _ _ _ _ (sym (judged (goal.at.returns-in-Err c).After-collect-heard) ∙ e) in record { answer = e ∙ sym refused; output = sym (text_kept _ _ _ _ _ refused) }
 
 -- the codes collected from accepted blocks
-collected : (c : After-collect-heard) {n : ℕ} → c.collect-heard.result ≡ Text n → let a = c.args in
+collected : (c : After-collect-heard) {n : ℕ} → c.collect-heard.result ≡ Ok n → let a = c.args in
     let count = length a.tones.now / 64 in c.collect-heard.new.codes ≡ over (codes_of (heard_characters a.mode a.tones.now count)) a.codes.now
 collected c e = c.collect-heard.ensures.output (e ∙ sym (text_told _ _ _ _ (sym c.collect-heard.ensures.answer ∙ e)).1)
 
 pub slice_bounds-deliver-end : goal.slice_bounds-deliver-end
 slice_bounds-deliver-end c =
-    let e = c.in-Text.is in
+    let e = c.in-Ok.is in
     let a = c.args in
     omega (arith, collected_fit a.mode a.tones.now (length a.tones.now / 64) c.collect-heard.new.codes _ (collected (goal.at.slice_bounds-deliver-end c).After-collect-heard e))
 
-pub returns-in-Text : goal.returns-in-Text
+pub returns-in-Ok : goal.returns-in-Ok
 unfolding message_characters
-returns-in-Text c =
-    let e = c.in-Text.is in
+returns-in-Ok c =
+    let e = c.in-Ok.is in
     let a = c.args in
-    let codes = collected_front a.mode a.tones.now (length a.tones.now / 64) c.collect-heard.new.codes _ (collected (goal.at.returns-in-Text c).After-collect-heard e) in let both = delivery_told a.limit a.mode a.least_lead a.tones.now a.text.now codes
-    (judges _ _ _ _ _ (hearable (goal.at.returns-in-Text c).Else-range-tones) ∙ clear_told _ _ _ (text_told _ _ _ _ (sym (judged (goal.at.returns-in-Text c).After-collect-heard) ∙ e)).0)
+    let codes = collected_front a.mode a.tones.now (length a.tones.now / 64) c.collect-heard.new.codes _ (collected (goal.at.returns-in-Ok c).After-collect-heard e) in let both = delivery_told a.limit a.mode a.least_lead a.tones.now a.text.now codes
+    (judges _ _ _ _ _ (hearable (goal.at.returns-in-Ok c).Else-range-tones) ∙ clear_told _ _ _ (text_told _ _ _ _ (sym (judged (goal.at.returns-in-Ok c).After-collect-heard) ∙ e)).0)
     c.deliver.ensures.answer c.deliver.ensures.output in record { answer = both.0; output = both.1 }

@@ -6,9 +6,10 @@ use lib.ListN.{length}
 use Rattle.refusal.specs.Refused.{refused_at}
 use Rattle.refusal.specs.Checks.{is_mode}
 use Rattle.refusal.proofs.Limits.{mode_range}
-use Rattle.block_encoder.specs.declared.Encoded.TheVariants.{Tones}
 use Rattle.message_encoder.proofs.Counts.{count_small, count_tight}
 use Rattle.message_encoder.proofs.EncodeCases.{Sendable, refuses_mode, refuses_count, refuses_room, refuses_code, encodes, tones_written, refusal_told_lem}
+use Rattle.std.proofs.Common.{Ok}
+use Rattle.refusal.specs.declared.Reason.{Reason}
 use Rattle.message_encoder.proofs.encode_within.Goals as goal
 use Rattle.message_encoder.proofs.encode_within.Goals.{Else-not-is_mode, After-block_count-count, Else-bad-text}
 
@@ -47,7 +48,7 @@ returns-then-tones-count c =
 
 pub returns-then-bad-text : goal.returns-then-bad-text
 returns-then-bad-text c =
-    let both = refusal_told_lem _ _ _ _ (c.at-then-bad-text.ensures ∙ ap (refused_at 6) c.first_bad_code-bad.ensures)
+    let both = refusal_told_lem _ _ _ _ (c.at-then-bad-text.ensures ∙ ap (refused_at Reason.Code) c.first_bad_code-bad.ensures)
     (refuses_code _ _ _ _ (mode_known (goal.at.returns-then-bad-text c).Else-not-is_mode) c.if-limit-text.false (rw c.block_count-count.ensures at c.if-tones-count.false) (rw c.first_bad_code-bad.ensures at c.if-bad-text.true)) in record { answer = both.0; output = both.1 }
 
 -- what the checks of mode and text leave
@@ -63,4 +64,4 @@ put_blocks-requires c =
 pub returns : goal.returns
 returns c =
     let count = c.block_count-count.ensures in
-    let sent = encodes _ _ _ _ (sendable (goal.at.returns c).Else-bad-text) (rw count at c.if-tones-count.false) in record { answer = ap (λ (n : ℕ). Tones (64 * n)) count ∙ sym sent; output = rw count at c.put_blocks.ensures ∙ sym (tones_written _ _ _ _ sent) }
+    let sent = encodes _ _ _ _ (sendable (goal.at.returns c).Else-bad-text) (rw count at c.if-tones-count.false) in record { answer = ap (λ (n : ℕ). Ok (64 * n)) count ∙ sym sent; output = rw count at c.put_blocks.ensures ∙ sym (tones_written _ _ _ _ sent) }

@@ -7,13 +7,13 @@ use Rattle.olivia.specs.Told.{hertz_told}
 use Rattle.olivia.proofs.Carried.{frequency_refused_at_0}
 use Rattle.olivia.proofs.olivia_frequency.Goals as goal
 
-pub returns-in-Hertz : goal.returns-in-Hertz
-returns-in-Hertz c = ap hertz_told (sym c.in-Hertz.is ∙ c.frequency-tuned.ensures)
+pub returns-in-Ok : goal.returns-in-Ok
+returns-in-Ok c = ap hertz_told (sym c.in-Ok.is ∙ c.frequency-tuned.ensures)
 
-pub returns-in-Refused : goal.returns-in-Refused
+pub returns-in-Err : goal.returns-in-Err
 unfolding scaled of_bits odd
-returns-in-Refused c =
-    let tuned = sym c.in-Refused.is ∙ c.frequency-tuned.ensures in
-    let refusal = c.in-Refused.refusal in
+returns-in-Err c =
+    let tuned = sym c.in-Err.is ∙ c.frequency-tuned.ensures in
+    let refusal = c.in-Err.refusal in
     let place = frequency_refused_at_0 _ _ _ _ _ (sym tuned) in
     rw (c.refused-answer.ensures, small_kept refusal.place (omega (arith, place))) (ap hertz_told tuned)

@@ -1,7 +1,7 @@
 use Rattle.told.proofs.encoded.Goals as goal
 
-pub returns-in-Tones : goal.returns-in-Tones
-returns-in-Tones c = rw c.in-Tones.is c.accepted.ensures
+pub returns-in-Ok : goal.returns-in-Ok
+returns-in-Ok c = rw c.in-Ok.is c.accepted.ensures
 
-pub returns-in-Refused : goal.returns-in-Refused
-returns-in-Refused c = rw c.in-Refused.is c.refused.ensures
+pub returns-in-Err : goal.returns-in-Err
+returns-in-Err c = rw c.in-Err.is c.refused.ensures

@@ -1,8 +1,8 @@
 use mathlib.Core.Path.{refl}
 use Rattle.told.proofs.energies.Goals as goal
 
-pub returns-in-Total : goal.returns-in-Total
-returns-in-Total c = rw c.in-Total.is refl
+pub returns-in-Ok : goal.returns-in-Ok
+returns-in-Ok c = rw c.in-Ok.is refl
 
-pub returns-in-Refused : goal.returns-in-Refused
-returns-in-Refused c = rw (c.in-Refused.is, c.refused-told.ensures) refl
+pub returns-in-Err : goal.returns-in-Err
+returns-in-Err c = rw (c.in-Err.is, c.refused-told.ensures) refl

@@ -1,9 +1,9 @@
 use Rattle.lists.specs.Caps.{capped}
 use Rattle.told.proofs.handed.Goals as goal
 
-pub returns-in-Taken : goal.returns-in-Taken
+pub returns-in-Ok : goal.returns-in-Ok
 unfolding capped
-returns-in-Taken c = rw c.in-Taken.is c.accepted.ensures
+returns-in-Ok c = rw c.in-Ok.is c.accepted.ensures
 
-pub returns-in-Refused : goal.returns-in-Refused
-returns-in-Refused c = rw c.in-Refused.is c.refused.ensures
+pub returns-in-Err : goal.returns-in-Err
+returns-in-Err c = rw c.in-Err.is c.refused.ensures

@@ -13,5 +13,5 @@ pub returns-in-OutsideBand : goal.returns-in-OutsideBand
 unfolding capped
 returns-in-OutsideBand c = rw (c.in-OutsideBand.is, c.nowhere-in-OutsideBand.ensures, c.at-in-OutsideBand.ensures) refl
 
-pub returns-in-Refused : goal.returns-in-Refused
-returns-in-Refused c = rw (c.in-Refused.is, c.nowhere-in-Refused.ensures) refl
+pub returns-in-Err : goal.returns-in-Err
+returns-in-Err c = rw (c.in-Err.is, c.nowhere-in-Err.ensures) refl

@@ -8,5 +8,5 @@ returns-in-Sentence c =
     c.said.ensures
     ∙ (rw (c.in-Sentence.is, c.accepted.ensures, c.refused-told.ensures) refl)
 
-pub returns-in-Refused : goal.returns-in-Refused
-returns-in-Refused c = c.said-in-Refused.ensures ∙ (rw (c.in-Refused.is, c.refused.ensures) refl)
+pub returns-in-Err : goal.returns-in-Err
+returns-in-Err c = c.said-in-Err.ensures ∙ (rw (c.in-Err.is, c.refused.ensures) refl)

@@ -10,5 +10,5 @@ pub returns-in-NoneWaiting : goal.returns-in-NoneWaiting
 unfolding capped
 returns-in-NoneWaiting c = rw (c.in-NoneWaiting.is, c.accepted-in-NoneWaiting.ensures) refl
 
-pub returns-in-Refused : goal.returns-in-Refused
-returns-in-Refused c = rw (c.in-Refused.is, c.refused.ensures) refl
+pub returns-in-Err : goal.returns-in-Err
+returns-in-Err c = rw (c.in-Err.is, c.refused.ensures) refl

@@ -1,16 +1,16 @@
 use mathlib.Core.Path.{sym, ◌∙◌, ap}
 use native.Mathlib.Omega.{arith}
-use Rattle.sender.specs.declared.Handed.TheVariants.{Refused}
 use Rattle.sender.specs.State.{counts_in}
 use Rattle.sender.proofs.Steps.{one_more_reserved}
 use Rattle.sender.proofs.PlaceCases.{refuses_depot, refuses_full, refuses_sum, takes_block}
+use Rattle.std.proofs.Common.{Err}
 use Rattle.sender.proofs.counts.place.Goals as goal
 
 pub returns-then-depot-gt29 : goal.returns-then-depot-gt29
-returns-then-depot-gt29 c = ap Refused c.at.ensures ∙ sym (refuses_depot _ _ c.if-depot-gt29.true)
+returns-then-depot-gt29 c = ap Err c.at.ensures ∙ sym (refuses_depot _ _ c.if-depot-gt29.true)
 
 pub returns-then-own-ge8 : goal.returns-then-own-ge8
-returns-then-own-ge8 c = ap Refused c.at-then-own-ge8.ensures ∙ sym (refuses_full _ _ (omega arith) c.if-own-ge8.true)
+returns-then-own-ge8 c = ap Err c.at-then-own-ge8.ensures ∙ sym (refuses_full _ _ (omega arith) c.if-own-ge8.true)
 
 pub returns-then-share-reserved : goal.returns-then-share-reserved
 returns-then-share-reserved c =
@@ -18,7 +18,7 @@ returns-then-share-reserved c =
     let r = s2.before in
     let s1 = r.before in
     let a = c.args in
-    ap Refused c.at-then-share-reserved.ensures
+    ap Err c.at-then-share-reserved.ensures
     ∙ sym (refuses_sum (counts_in a.state.now) a.depot (omega arith) (omega arith)
     (omega (arith, one_more_reserved (counts_in a.state.now) a.depot (omega arith), c.if-share-reserved.true, s2.share-2.ensures.0, r.reserved.ensures.0, s1.share.ensures.0)))
 

@@ -2,12 +2,12 @@ use mathlib.Core.Path.{◌≡◌, sym, ◌∙◌}
 use Prim.Native.Nat.{◌≤◌}
 use native.Mathlib.Omega.{arith}
 use Rattle.refusal.proofs.Limits.{mode_range}
-use Rattle.sender.specs.declared.Handed.TheVariants.{Taken}
 use Rattle.sender.specs.Queues.{Block, hand_answer}
 use Rattle.sender.specs.State.{counts_in}
 use Rattle.sender.proofs.Cases.{Takes, taken_checks}
 use Rattle.sender.proofs.HandingIn.{no_state, refused_in, taken_in}
 use borrow.Author.Rules.{rules}
+use Rattle.std.proofs.Common.{Ok}
 use Rattle.sender.proofs.lent.hand_in.Goals as goal
 use Rattle.sender.proofs.lent.hand_in.Goals.{In-Taken}
 
@@ -21,8 +21,8 @@ abbrev block : (c : In-Taken) → Block
 block c = record { mode = c.args.mode; codes = c.args.codes.now }
 
 -- the answer by the counts, and what it rests on
-answers_taken : (c : In-Taken) → hand_answer (counts_in c.args.state.now) c.args.depot (block c) ≡ Taken
-answers_taken c = sym c.judge-answer.ensures ∙ c.in-Taken.is
+answers_taken : (c : In-Taken) → hand_answer (counts_in c.args.state.now) c.args.depot (block c) ≡ (Ok tt)
+answers_taken c = sym c.judge-answer.ensures ∙ c.in-Ok.is
 
 taken : (c : In-Taken) → Takes (counts_in c.args.state.now) c.args.depot (block c)
 taken c = taken_checks _ _ _ (answers_taken c)
@@ -42,13 +42,13 @@ store-requires c =
     let t = taken at in
     (search rules, t.known, t.own, omega (arith, t.right.count, mode_small at))
 
-pub returns-in-Taken : goal.returns-in-Taken
-returns-in-Taken c =
-    let at = (goal.at.returns-in-Taken c).In-Taken in
+pub returns-in-Ok : goal.returns-in-Ok
+returns-in-Ok c =
+    let at = (goal.at.returns-in-Ok c).In-Taken in
     let both = taken_in _ _ _ c.if-state-ne-SIZE.false _ (answers_taken at) c.store.ensures in
     record { run = both.0; any = both.1 }
 
-pub returns-in-Refused : goal.returns-in-Refused
-returns-in-Refused c =
-    let both = refused_in _ _ _ c.if-state-ne-SIZE.false _ (sym c.judge-answer.ensures ∙ c.in-Refused.is) in
+pub returns-in-Err : goal.returns-in-Err
+returns-in-Err c =
+    let both = refused_in _ _ _ c.if-state-ne-SIZE.false _ (sym c.judge-answer.ensures ∙ c.in-Err.is) in
     record { run = both.0; any = both.1 }

@@ -7,7 +7,6 @@ use Rattle.lists.specs.Lists.{num}
 use Rattle.block_encoder.specs.Encoding.{encode_block, encoded_into}
 use Rattle.block_encoder.proofs.EncodeCases.{tones_kept, tones_written}
 use Rattle.block_encoder.proofs.CheckCases.{encoded_right, right_text}
-use Rattle.sender.specs.declared.Sent.TheVariants as sent
 use Rattle.sender.specs.Queues.{Block}
 use Rattle.sender.specs.State.{place_in}
 use Rattle.sender.specs.Sending.{is_block}
@@ -60,17 +59,17 @@ codes_placed c =
     let n = c.code_count in
     part_codes c.args.state.now (at c) n.result place-fits n.ensures
 
-pub returns-in-Tones : goal.returns-in-Tones
+pub returns-in-Ok : goal.returns-in-Ok
 unfolding place_in is_block
-returns-in-Tones c =
-    let enc = (goal.at.returns-in-Tones c).After-encode_block in
+returns-in-Ok c =
+    let enc = (goal.at.returns-in-Ok c).After-encode_block in
     let p = enc.place_of-at in
-    let accepted = sym enc.encode_block.ensures.answer ∙ c.in-Tones.is in
+    let accepted = sym enc.encode_block.ensures.answer ∙ c.in-Ok.is in
     record {
       serves = λ q h some few ok.
           let o = oldest_there q enc.args.state.now enc.args.depot h enc.requires.1 some few p.result p.ensures in
           record {
-            answered = ap (λ (b : Block). sent.Block enc.args.depot b.mode) (sym o);
+            answered = ap (λ (b : Block). BLOCK enc.args.depot b.mode) (sym o);
             output =
                 enc.encode_block.ensures.output
                 ∙ ap (λ (codes : List ℕ). encoded_into (its_mode enc) codes enc.args.tones.now) (codes_placed enc)
@@ -89,12 +88,12 @@ returns-in-Tones c =
           });
     }
 
-pub returns-in-Refused : goal.returns-in-Refused
+pub returns-in-Err : goal.returns-in-Err
 unfolding place_in
-returns-in-Refused c =
-    let enc = (goal.at.returns-in-Refused c).After-encode_block in
+returns-in-Err c =
+    let enc = (goal.at.returns-in-Err c).After-encode_block in
     let p = enc.place_of-at in
-    let refused = sym enc.encode_block.ensures.answer ∙ c.in-Refused.is in
+    let refused = sym enc.encode_block.ensures.answer ∙ c.in-Err.is in
     record {
       serves = λ q h some few ok.
           let o = oldest_there q enc.args.state.now enc.args.depot h enc.requires.1 some few p.result p.ensures in

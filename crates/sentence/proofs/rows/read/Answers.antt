@@ -1,8 +1,8 @@
 -- Before each turn the rows that are left decide what the bytes are read as.
 use mathlib.Core.Path.{◌∙◌, ap}
 use native.Mathlib.Omega.{arith}
-use Rattle.sentence.specs.declared.Read.TheVariants.{Refused}
 use Rattle.sentence.proofs.RowCases.{read_start, read_none, read_head, head_pattern, read_found, read_more}
+use Rattle.std.proofs.Common.{Err}
 use Rattle.sentence.proofs.rows.read.Goals as goal
 
 pub loop-at-init : goal.loop-at-init
@@ -56,4 +56,4 @@ pub returns : goal.returns
 returns c =
     let l = c.loop-at in
     let a = c.args in
-    ap Refused c.at.ensures ∙ read_none a.rows.now a.bytes.now l.at l.best l.invariant.1 (omega arith)
+    ap Err c.at.ensures ∙ read_none a.rows.now a.bytes.now l.at l.best l.invariant.1 (omega arith)
