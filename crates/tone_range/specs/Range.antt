@@ -3,6 +3,7 @@
 use Rattle.std.specs.Prelude.{◌≡◌, ℕ, ◌+◌, ◌<◌, Bool, cond, not, ◌&&◌, ◌⊎◌, List, length, ◌==◌, nat_le, nat_lt}
 use Rattle.lists.specs.Lists.{num}
 use Rattle.lists.specs.Places.{first}
+use Rattle.lists.specs.Found.{found}
 use Rattle.chain.specs.Chain.{missing_mark}
 use Rattle.tone_range.specs.declared.Looked.{Looked}
 
@@ -25,4 +26,4 @@ looked_at limit tones = cond (nat_lt (first_bad_tone limit tones) (length tones)
 
 -- what the check finds, and how many tones it looks at
 unfoldable pub range_of : ℕ → List ℕ → Looked
-range_of limit tones = record { bad = first_bad_tone limit tones; looked = looked_at limit tones }
+range_of limit tones = record { bad = found (length tones) (first_bad_tone limit tones); looked = looked_at limit tones }

@@ -7,10 +7,10 @@ ghost use Rattle.tone_range.specs.Range.{range_of};
 
 pub mod laws;
 
-// The lowest place of a bad tone, else the count of tones; and how many tones were looked at.
-#[derive(Clone, Copy)]
+// The lowest place of a bad tone, if there is one; and how many tones were looked at.
+#[derive(Clone, Copy, Debug, PartialEq, Eq)]
 pub struct Looked {
-    pub bad: usize,
+    pub bad: Option<usize>,
     pub looked: usize,
 }
 
@@ -18,16 +18,17 @@ pub struct Looked {
 pub fn check(limit: u16, tones: &[u16]) -> Looked
     ensures { result ≡ range_of limit tones.now }
 {
-    let mut looked: usize = 0;
-    let mut t: usize = 0;
-    while t < tones.len() {
+    let mut looked = 0;
+    for (t, &tone) in tones.iter().enumerate() {
         looked += 1;
-        if is_bad_tone(limit, tones[t]) {
-            return Looked { bad: t, looked };
+        if is_bad_tone(limit, tone) {
+            return Looked {
+                bad: Some(t),
+                looked,
+            };
         }
-        t += 1;
     }
-    Looked { bad: t, looked }
+    Looked { bad: None, looked }
 }
 
 // One comparison tells both: the mark of a missing tone is the greatest u16, so that one more goes round to 0.

@@ -4,9 +4,12 @@ use mathlib.Core.List.{List}
 use Prim.Native.Nat.{ℕ, ◌<◌, ◌≤◌}
 use native.Mathlib.Omega.{arith}
 use borrow.Author.Tests.{le-ltb, ltb-false}
+use Rattle.std.proofs.Common.{ltb, position}
 use lib.ListN.{length, length-replicate, get_or-replicate}
 use Rattle.lists.specs.Lists.{num}
+use Rattle.lists.specs.Found.{found}
 use Rattle.lists.proofs.Places.{first_is, first_none}
+use Rattle.lists.proofs.Found.{position_found}
 use Rattle.weight_range.specs.Range.{HasWeights, throughout, bad_weight, first_bad_weight}
 
 module _ (N : ℕ) (weights : List ℕ) where
@@ -39,3 +42,9 @@ weight_throughout w t l = get_or-replicate 64 t w 0 l
 pub has_throughout : (w N : ℕ) → w ≤ N → HasWeights N (throughout w)
 unfolding throughout
 has_throughout w N h = record { count = length-replicate 64 w; each = λ t l. omega (arith, get_or-replicate 64 t w 0 l) }
+
+-- ---- the library's search
+
+pub weight_found : (N : ℕ) (weights : List ℕ) → position (λ w. ltb N w) weights ≡ found (length weights) (first_bad_weight N weights)
+unfolding first_bad_weight
+weight_found N weights = position_found (λ w. ltb N w) weights
