@@ -1,42 +1,94 @@
--- `check_codes`: an equation for each answer, under the checks that lead to it, and what is known of codes that it finds right.
-use mathlib.Core.Path.{◌≡◌, refl}
+-- What the checks of a count and of each code tell of a block, and what is known of codes that `check_codes` finds right.
+use mathlib.Core.Path.{◌≡◌, refl, ◌∙◌, ap}
 use mathlib.Core.Bool.{Bool, true, false, cond, not}
 use mathlib.Core.List.{List}
 use Prim.Native.Nat.{ℕ, ◌<◌, ◌≤◌}
 use native.Mathlib.Omega.{arith}
-use borrow.Author.Tests.{leb-false, ltb-false, lt-ltb, le-ltb, eqb-true, eq-eqb, ne_eqb}
-use lib.Dec.{ltb, eqb}
+use borrow.Author.Tests.{leb-false, ltb-true, ltb-false, eqb-true, eq-eqb}
+use lib.Dec.{ltb, leb, eqb}
 use lib.ListN.{length}
 use Rattle.lists.specs.Lists.{num}
 use Rattle.lists.specs.Places.{first}
+use Rattle.lists.specs.Found.{found}
 use Rattle.lists.proofs.Places.{first_is}
-use Rattle.refusal.specs.Refused.{Answered, refused_at}
+use Rattle.lists.proofs.Found.{position_found}
+use Rattle.refusal.specs.Refused.{Answered, number_of, refused_at}
 use Rattle.refusal.specs.Checks.{is_mode}
 use Rattle.refusal.specs.declared.Refusal.{Refusal}
 use Rattle.block_encoder.specs.Encoding.{IsText, bad_code, first_bad_code, encode_block}
-use Rattle.block_encoder.specs.Checking.{check_codes}
-use Rattle.block_encoder.proofs.EncodeCases.{encodes}
-use Rattle.std.proofs.Common.{Ok, Err}
+use Rattle.block_encoder.specs.Checking.{check_count, check_each, check_codes}
+use Rattle.block_encoder.proofs.EncodeCases.{encodes, refuses_code}
+use Rattle.std.proofs.Common.{position, Ok, Err}
 use Rattle.refusal.specs.declared.Reason.{Reason}
 
+pub code_found : (codes : List ℕ) → position (λ c. leb 128 c) codes ≡ found (length codes) (first_bad_code codes)
+unfolding first_bad_code
+code_found codes = position_found (λ c. leb 128 c) codes
+
 module _ (b : ℕ) (codes : List ℕ) where
-  pub finds_mode : is_mode b ≡ false → check_codes b codes ≡ Err (refused_at Reason.Mode 0)
-  unfolding check_codes
-  finds_mode e = simp e
+  module _ {r : Refusal} (e : check_count b codes ≡ Err r) where
+    -- a count that is refused is refused of a block too, now or later
+    pub count_refused : (room : ℕ) → encode_block b codes room ≡ Err r
+    unfolding encode_block check_count
+    count_refused room = by (is_mode b) (eqb (length codes) b) e
+      where
+        by : (m n : Bool) → cond (not m) (Err (refused_at Reason.Mode 0)) (cond (not n) (Err (refused_at Reason.CodeCount 0)) (Ok (tt {0}))) ≡ Err r
+            → cond (not m) (Err (refused_at Reason.Mode 0))
+            (cond (not n) (Err (refused_at Reason.CodeCount 0))
+            (cond (ltb room 64) (Err (refused_at Reason.Room 0))
+            (cond {A = Answered ℕ} (ltb (first_bad_code codes) b) (Err (refused_at Reason.Code (first_bad_code codes))) (Ok 64)))) ≡ Err r
+        by false n h = let p : refused_at Reason.Mode 0 ≡ r = cc in ap Err p
+        by true false h = let p : refused_at Reason.CodeCount 0 ≡ r = cc in ap Err p
+        by true true h = absurd cc
 
-  module _ (e : is_mode b ≡ true) where
-    pub finds_count : (length codes ≡ b → ⊥) → check_codes b codes ≡ Err (refused_at Reason.CodeCount 0)
-    unfolding check_codes
-    finds_count h = simp (e, ne_eqb (length codes) b h)
+    pub later_refused : check_codes b codes ≡ Err r
+    unfolding check_codes check_count
+    later_refused = by (is_mode b) (eqb (length codes) b) e
+      where
+        by : (m n : Bool) → cond (not m) (Err (refused_at Reason.Mode 0)) (cond (not n) (Err (refused_at Reason.CodeCount 0)) (Ok (tt {0}))) ≡ Err r
+            → cond (not m) (Err (refused_at Reason.Mode 0))
+            (cond (not n) (Err (refused_at Reason.CodeCount 0))
+            (cond (ltb (first_bad_code codes) b) (Err (refused_at Reason.Code (first_bad_code codes))) (Ok (tt {0})))) ≡ Err r
+        by false n h = h
+        by true false h = h
+        by true true h = absurd cc
 
-    module _ (n : length codes ≡ b) where
-      pub finds_code : first_bad_code codes < b → check_codes b codes ≡ Err (refused_at Reason.Code (first_bad_code codes))
-      unfolding check_codes
-      finds_code l = simp (e, eq-eqb (length codes) b n, lt-ltb (first_bad_code codes) b l)
+  pub count_passed : {u : Unit {0}} → check_count b codes ≡ Ok u → (is_mode b ≡ true) × (length codes ≡ b)
+  unfolding check_count
+  count_passed {u} e = by (is_mode b) refl (eqb (length codes) b) refl e
+    where
+      by : (m : Bool) → is_mode b ≡ m → (n : Bool) → eqb (length codes) b ≡ n
+          → cond (not m) (Err (refused_at Reason.Mode 0)) (cond (not n) (Err (refused_at Reason.CodeCount 0)) (Ok (tt {0}))) ≡ Ok u
+          → (is_mode b ≡ true) × (length codes ≡ b)
+      by false p n q h = absurd cc
+      by true p false q h = absurd cc
+      by true p true q h = (p, eqb-true (length codes) b q)
 
-      pub finds_none : b ≤ first_bad_code codes → check_codes b codes ≡ (Ok tt)
-      unfolding check_codes
-      finds_none l = simp (e, eq-eqb (length codes) b n, le-ltb (first_bad_code codes) b l)
+  module _ (m : is_mode b ≡ true) (n : length codes ≡ b) where
+    pub each_refused : {r : Refusal} (room : ℕ) → 64 ≤ room → check_each codes ≡ Err r → encode_block b codes room ≡ Err r
+    unfolding check_each
+    each_refused {r} room h e = by (ltb (first_bad_code codes) (length codes)) refl e
+      where
+        by : (t : Bool) → ltb (first_bad_code codes) (length codes) ≡ t
+            → cond t (Err (refused_at Reason.Code (first_bad_code codes))) (Ok (tt {0})) ≡ Err r → encode_block b codes room ≡ Err r
+        by false p q = absurd cc
+        by true p q =
+            let same : refused_at Reason.Code (first_bad_code codes) ≡ r = cc in
+            let low : first_bad_code codes < b = omega (arith, ltb-true (first_bad_code codes) (length codes) p, n) in
+            refuses_code b codes room m n h low ∙ ap Err same
+
+    pub each_passed : {u : Unit {0}} → check_each codes ≡ Ok u → b ≤ first_bad_code codes
+    unfolding check_each
+    each_passed {u} e = by (ltb (first_bad_code codes) (length codes)) refl e
+      where
+        by : (t : Bool) → ltb (first_bad_code codes) (length codes) ≡ t
+            → cond t (Err (refused_at Reason.Code (first_bad_code codes))) (Ok (tt {0})) ≡ Ok u → b ≤ first_bad_code codes
+        by true p q = absurd cc
+        by false p q = omega (arith, ltb-false (first_bad_code codes) (length codes) p, n)
+
+    pub later_each : check_each codes ≡ check_codes b codes
+    unfolding check_codes check_each
+    later_each = rw (m, n, eq-eqb b b refl)
 
 -- the codes pass 1, 5 and 6
 pub record RightCodes (b : ℕ) (codes : List ℕ) : Type 0 where
@@ -46,11 +98,11 @@ pub record RightCodes (b : ℕ) (codes : List ℕ) : Type 0 where
 
 -- what an answer tells
 pub data CheckCase (b : ℕ) (codes : List ℕ) : Answered Unit → Type 0 where
-  wrong : (r : Refusal) → r.number ≤ 6 → CheckCase b codes (Err r)
+  wrong : (r : Refusal) → number_of r.reason ≤ 6 → CheckCase b codes (Err r)
   right : RightCodes b codes → CheckCase b codes (Ok tt)
 
 pub check_case : (b : ℕ) (codes : List ℕ) → CheckCase b codes (check_codes b codes)
-unfolding check_codes
+unfolding check_codes number_of
 check_case b codes = mode_check (is_mode b) refl
   where
     code_check : is_mode b ≡ true → length codes ≡ b → (t : Bool) → ltb (first_bad_code codes) b ≡ t

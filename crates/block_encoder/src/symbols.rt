@@ -17,18 +17,16 @@ fn added(symbol: u8, bit: bool, value: u8) -> u8
 }
 
 // Adds to each symbol what character q sends at its place.
-fn add_character(q: usize, codes: &[u8], keys: &[u8; 64], values: &[u8; 72], symbols: &mut [u8])
+fn add_character(q: usize, codes: &[u8], keys: &[u8; 64], values: &[u8; 72], symbols: &mut [u8; 64])
     requires codes { (q < length codes.now) × (length codes.now ≤ 8) }
     requires tables { (keys.now ≡ tab keys_at 64) × (values.now ≡ tab (place_value (length codes.now)) 72) }
     requires sums { symbols.old ≡ part_symbols codes.now q }
     ensures { symbols.new ≡ part_symbols codes.now (q + 1) }
 {
     let code = codes[q];
-    let mut t: usize = 0;
-    while t < 64 {
+    for t in 0..64 {
         let bit = scrambler::code_bit(code, t) != ((keys[t] >> q) % 2 == 1);
         symbols[t] = added(symbols[t], bit, values[q + t]);
-        t += 1;
     }
 }
 
@@ -40,10 +38,8 @@ pub fn of_codes(mode: u32, codes: &[u8]) -> [u8; 64]
     let keys = scrambler::keys();
     let values = interleaver::values(mode);
     let mut symbols = [0u8; 64];
-    let mut q: usize = 0;
-    while q < codes.len() {
+    for q in 0..codes.len() {
         add_character(q, codes, &keys, &values, &mut symbols);
-        q += 1;
     }
     symbols
 }

@@ -3,19 +3,15 @@ use mathlib.Core.List.{List}
 use Prim.Native.Nat.{ℕ}
 use native.Mathlib.Omega.{arith}
 use lib.ListN.{length-set}
-use lib.Pow.{pow_mono}
-use borrow.Author.Rules.{rules}
 use Rattle.lists.specs.Lists.{num}
 use Rattle.lists.proofs.Tables.{tab_at}
 use Rattle.lists.proofs.Fronts.{over_start, over_set}
-use Rattle.refusal.proofs.Limits.{mode_range}
 use Rattle.chain.specs.Chain.{symbol_at, gray, tone_at, tones_of}
-use Rattle.chain.proofs.Interleaving.{interleaver}
 use Rattle.block_encoder.proofs.put_tones.Goals as goal
 use Rattle.block_encoder.proofs.put_tones.Goals.{In-loop-t}
 
 pub loop-t-init : goal.loop-t-init
-loop-t-init c = (search rules, refl, over_start _ _)
+loop-t-init c = (refl, over_start _ _)
 
 -- the symbol at t
 symbol_at_lem : (c : In-loop-t) →
@@ -25,24 +21,16 @@ symbol_at_lem c =
     let t = c.loop-t.t in
     ap (λ (x : List ℕ). num x t) c.of_codes-symbols.ensures ∙ tab_at _ 0 64 t c.loop-t-test.true
 
-pub overflow_cast-symbols : goal.overflow_cast-symbols
-overflow_cast-symbols c =
-    let s = c.before.before.before.before.before in
-    let mode = s.args.mode in
-    omega (arith, symbol_at_lem (goal.at.overflow_cast-symbols c).In-loop-t, interleaver.below mode s.args.codes.now c.loop-t.t, pow_mono {i = mode} {j = 8} (mode_range mode s.requires.0).1)
-
 pub tone_of-requires : goal.tone_of-requires
 tone_of-requires c = tt
 
 pub loop-t-preserved : goal.loop-t-preserved
 unfolding tone_at
 loop-t-preserved c =
-    let l = c.loop-t in
-    let s = c.before.before.before.before.before.before in (
-      search rules,
-      length-set l.tones l.t _ ∙ l.invariant.1,
-      over_set 0 (tone_at s.args.mode s.args.codes.now) l.t s.args.tones.now l.tones _ (omega arith) l.invariant.2
-          (c.tone_of.ensures ∙ ap gray (symbol_at_lem (goal.at.loop-t-preserved c).In-loop-t)),
+    let l = c.loop-t in (
+      length-set l.tones l.t _ ∙ l.invariant.0,
+      over_set 0 (tone_at c.args.mode c.args.codes.now) l.t c.args.tones.now l.tones _ (omega arith) l.invariant.1
+          (c.tone_of.ensures ∙ ap gray (c.from.ensures ∙ symbol_at_lem (goal.at.loop-t-preserved c).In-loop-t)),
     )
 
 pub returns : goal.returns
@@ -50,4 +38,4 @@ unfolding tones_of
 returns c =
     let l = c.loop-t in
     let done : l.t ≡ 64 = omega arith in
-    rw done at l.invariant.2
+    rw done at l.invariant.1

@@ -1,5 +1,4 @@
 use mathlib.Core.Path.{◌≡◌}
-use Prim.Native.Nat.{◌-◌, ◌≤◌}
 use lib.ListN.{length}
 use Rattle.lists.specs.Lists.{tab, over}
 use Rattle.chain.specs.Chain.{tone_at}
@@ -7,7 +6,4 @@ use Rattle.block_encoder.proofs.put_tones.Given as goal
 
 abbrev pub invariant-loop-t : goal.invariant-loop-t
 invariant-loop-t l =
-    (l.t ≤ 64) × (length l.tones ≡ length l.initial.tones) × (l.tones ≡ over (tab (tone_at l.mode l.codes) l.t) l.initial.tones)
-
-abbrev pub decreases-loop-t : goal.decreases-loop-t
-decreases-loop-t l = 64 - l.t
+    (length l.tones ≡ length l.initial.tones) × (l.tones ≡ over (tab (tone_at l.mode l.codes) l.t) l.initial.tones)

@@ -3,7 +3,6 @@ use mathlib.Core.List.{List}
 use Prim.Native.Nat.{ℕ, ◌+◌, ◌<◌}
 use native.Mathlib.Omega.{arith}
 use lib.ListN.{length, length-set}
-use borrow.Author.Rules.{rules}
 use Rattle.lists.specs.Sums.{total}
 use Rattle.lists.specs.Lists.{num}
 use Rattle.lists.proofs.Tables.{tab_at}
@@ -18,13 +17,12 @@ use Rattle.block_encoder.proofs.symbols.add_character.Goals.{In-loop-t}
 
 pub loop-t-init : goal.loop-t-init
 loop-t-init c =
-    let s = c.before.before.before in
-    (search rules, ap length s.requires.sums ∙ part_length _ _, s.requires.sums ∙ over_start _ _)
+    (ap length c.requires.sums ∙ part_length _ _, c.requires.sums ∙ over_start _ _)
 
 pub bounds-symbols-t : goal.bounds-symbols-t
 bounds-symbols-t c =
     let l = c.loop-t in
-    omega (arith, l.invariant.1, c.loop-t-test.true)
+    omega (arith, l.invariant.0, c.loop-t-test.true)
 
 -- symbol t as far as the characters before q go, and the value of the next one's place
 sum_known : (c : In-loop-t) →
@@ -35,7 +33,7 @@ sum_known c =
     let l = c.loop-t in
     let a = c.args in
     let here : l.t < 64 = c.loop-t-test.true in
-    ap (λ (x : List ℕ). num x l.t) l.invariant.2
+    ap (λ (x : List ℕ). num x l.t) l.invariant.1
     ∙ over_past _ 0 l.t _ l.t (omega arith)
     ∙ part_at a.codes.now a.q l.t here
 
@@ -45,37 +43,31 @@ value_known : (c : In-loop-t) →
     num a.values.now (a.q + l.t) ≡ place_value (length a.codes.now) (a.q + l.t)
 value_known c =
     let l = c.loop-t in
-    let s = c.before.before.before.before.before in
-    let a = s.args in
-    ap (λ (x : List ℕ). num x (a.q + l.t)) s.requires.tables.1
-    ∙ tab_at (place_value (length a.codes.now)) 0 72 (a.q + l.t) (omega (arith, s.requires.codes.0, s.requires.codes.1))
+    let a = c.args in
+    ap (λ (x : List ℕ). num x (a.q + l.t)) c.requires.tables.1
+    ∙ tab_at (place_value (length a.codes.now)) 0 72 (a.q + l.t) (omega (arith, c.requires.codes.0, c.requires.codes.1))
 
 pub added-requires : goal.added-requires
 added-requires c =
-    let turn = c.before.before.before.before in
-    let s = turn.before.before.before.before.before in
-    let room = part_room s.args.codes.now turn.loop-t.t s.args.q _ _ s.requires.codes.0 s.requires.codes.1 (sum_known (goal.at.added-requires c).In-loop-t) (value_known (goal.at.added-requires c).In-loop-t) in
+    let room = part_room c.args.codes.now c.loop-t.t c.args.q _ _ c.requires.codes.0 c.requires.codes.1 (sum_known (goal.at.added-requires c).In-loop-t) (value_known (goal.at.added-requires c).In-loop-t) in
     rw cond_difference (omega (arith, room))
 
 pub bounds-symbols-t-in-loop-t : goal.bounds-symbols-t-in-loop-t
 bounds-symbols-t-in-loop-t c =
     let l = c.loop-t in
-    omega (arith, l.invariant.1, c.loop-t-test.true)
+    omega (arith, l.invariant.0, c.loop-t-test.true)
 
 pub loop-t-preserved : goal.loop-t-preserved
 loop-t-preserved c =
-    let turn = c.before.before.before.before.before in
-    let l = turn.loop-t in
-    let s = turn.before.before.before.before.before in
-    let a = s.args in
-    let here : l.t < 64 = turn.loop-t-test.true in
+    let l = c.loop-t in
+    let a = c.args in
+    let here : l.t < 64 = c.loop-t-test.true in
     let key : bit (num a.keys.now l.t) a.q ≡ key_bit a.q l.t =
-    ap (λ (x : List ℕ). bit (num x l.t) a.q) s.requires.tables.0
+    ap (λ (x : List ℕ). bit (num x l.t) a.q) c.requires.tables.0
     ∙ ap (λ (k : ℕ). bit k a.q) (tab_at keys_at 0 64 l.t here)
-    ∙ keys_bit l.t a.q (omega (arith, s.requires.codes.0, s.requires.codes.1)) in (
-      search rules,
-      length-set l.symbols l.t _ ∙ l.invariant.1,
-      over_set 0 _ l.t (part_symbols a.codes.now a.q) l.symbols _ (rw (part_length a.codes.now a.q) here) l.invariant.2
+    ∙ keys_bit l.t a.q (omega (arith, c.requires.codes.0, c.requires.codes.1)) in (
+      length-set l.symbols l.t _ ∙ l.invariant.0,
+      over_set 0 _ l.t (part_symbols a.codes.now a.q) l.symbols _ (rw (part_length a.codes.now a.q) here) l.invariant.1
           (part_more a.codes.now l.t a.q _ _ _ _ _ _ (sum_known (goal.at.loop-t-preserved c).In-loop-t) c.code_bit.ensures key refl (value_known (goal.at.loop-t-preserved c).In-loop-t) c.added.ensures),
     )
 
@@ -84,4 +76,4 @@ unfolding part_symbols
 returns c =
     let l = c.loop-t in
     let done : l.t ≡ 64 = omega arith in
-    rw done at l.invariant.2 ∙ over_tab_whole _ 64 _ (rw part_length (omega arith))
+    rw done at l.invariant.1 ∙ over_tab_whole _ 64 _ (rw part_length (omega arith))

@@ -1,5 +1,5 @@
 use mathlib.Core.Path.{◌≡◌}
-use Prim.Native.Nat.{◌+◌, ◌-◌, ◌≤◌}
+use Prim.Native.Nat.{◌+◌}
 use lib.ListN.{length}
 use Rattle.lists.specs.Sums.{total}
 use Rattle.lists.specs.Lists.{tab, over}
@@ -9,7 +9,4 @@ use Rattle.block_encoder.proofs.symbols.add_character.Given as goal
 
 abbrev pub invariant-loop-t : goal.invariant-loop-t
 invariant-loop-t l =
-    (l.t ≤ 64) × (length l.symbols ≡ 64) × (l.symbols ≡ over (tab (λ k. total (l.q + 1) (value_at (length l.codes) l.codes k)) l.t) (part_symbols l.codes l.q))
-
-abbrev pub decreases-loop-t : goal.decreases-loop-t
-decreases-loop-t l = 64 - l.t
+    (length l.symbols ≡ 64) × (l.symbols ≡ over (tab (λ k. total (l.q + 1) (value_at (length l.codes) l.codes k)) l.t) (part_symbols l.codes l.q))
