@@ -1,26 +1,27 @@
 -- `heard_block` and `heard_block_into`: an equation for each answer, under the checks that lead to it, and back.
 use mathlib.Core.Path.{◌≡◌, refl, sym, ◌∙◌, ap}
-use mathlib.Core.Bool.{Bool, true, false, cond}
+use mathlib.Core.Bool.{Bool, true, false, cond, not}
 use mathlib.Core.List.{List}
 use Prim.Native.Nat.{ℕ, ◌<◌, ◌≤◌, ◌^◌}
 use native.Mathlib.Omega.{arith}
 use borrow.Author.Tests.{lt-ltb, le-ltb, eq-eqb, ne_eqb, ltb-false, eqb-true, not-false}
-use lib.Dec.{ltb}
-use lib.ListN.{length, take}
+use lib.Dec.{ltb, eqb}
+use lib.ListN.{length, take, replicate}
 use Rattle.lists.specs.Lists.{tab, over}
 use Rattle.refusal.specs.Checks.{is_lead_at, is_mode}
 use Rattle.refusal.specs.declared.Refusal.{Refusal}
+use Rattle.decision.specs.Decision.{none}
 use Rattle.decision.specs.declared.Character.{Character}
 use Rattle.tone_range.specs.Range.{first_bad_tone}
 use Rattle.weight_range.specs.Range.{first_bad_weight}
 use Rattle.block_decoder.specs.Decoding.{weighted_of, codes_of, first_unclear, unless_unclear, padded, refused, heard_block, heard_into, heard_block_into}
-use Rattle.block_decoder.specs.Internal.{code_in, judgement_in}
+use Rattle.block_decoder.specs.Internal.{code_in, listened, judgement_in}
 use Rattle.block_decoder.specs.declared.BlockDecoded.{BlockDecoded}
 use Rattle.block_decoder.proofs.Characters.{codes_padded, judgement_padded}
 use Rattle.block_decoder.proofs.Clarity.{text_told}
 use Rattle.std.proofs.Common.{Ok, Err}
 use Rattle.refusal.specs.declared.Reason.{Reason}
-use Rattle.refusal.specs.Refused.{Answered}
+use Rattle.refusal.specs.Refused.{Answered, refused_at}
 
 -- what a block's checks before its tones' range leave, where n tones and w weights are heard
 pub record Passed (N b m n w room : ℕ) : Type 0 where
@@ -76,11 +77,74 @@ module _ (N b m : ℕ) (tones weights : List ℕ) (room : ℕ) where
       pub judges : 64 ≤ first_bad_weight N weights → heard_block N b m tones weights room ≡ judged b m (weighted_of b tones weights)
       judges h = rw (le-ltb (first_bad_tone (2 ^ b) tones) 64 r, le-ltb (first_bad_weight N weights) 64 h) at in_range
 
-  -- a refusal that is told, with the output as it was
-  pub refusal_told_lem : {d : BlockDecoded} (number place : ℕ) (xs codes : List ℕ) → d ≡ refused number place → heard_block N b m tones weights room ≡ refused number place
-      → (d ≡ heard_block N b m tones weights room) × (codes ≡ heard_into (heard_block N b m tones weights room).answer xs codes)
-  unfolding refused heard_into
-  refusal_told_lem number place xs codes p e = (p ∙ sym e, rw e)
+-- ---- the decisions before the answer
+
+-- d is what is answered where l is decided: by characters, j
+record Agrees (l : Answered (List Character)) (d : BlockDecoded) (characters : List Character) (j : BlockDecoded) : Type 0 where
+  pub refused_as : (r : Refusal) → l ≡ Err r → d ≡ record { answer = Err r; characters = replicate 8 none }
+  pub passed_as : (found : List Character) → l ≡ Ok found → (found ≡ characters) × (d ≡ j)
+
+module _ {characters : List Character} {j : BlockDecoded} where
+  agrees_refused : (reason : Reason) (place : ℕ) → Agrees (Err (refused_at reason place)) (refused reason place) characters j
+  unfolding refused
+  agrees_refused reason place = record {
+    refused_as = λ r e. let same : refused_at reason place ≡ r = cc in ap (λ (x : Refusal). record { answer = Err x; characters = replicate 8 none }) same;
+    passed_as = λ found e. absurd cc;
+  }
+
+  agrees_done : Agrees (Ok characters) j characters j
+  agrees_done = record { refused_as = λ r e. absurd cc; passed_as = λ found e. (cc, refl) }
+
+  agrees_unless : (t : Bool) {l k : Answered (List Character)} {d e : BlockDecoded} → Agrees l d characters j → Agrees k e characters j
+      → Agrees (cond t l k) (cond t d e) characters j
+  agrees_unless true p q = p
+  agrees_unless false p q = q
+
+module _ (N b m : ℕ) (tones weights : List ℕ) (room : ℕ) where
+  agrees : Agrees (listened N b m tones weights room) (heard_block N b m tones weights room) (padded (weighted_of b tones weights)) (judged b m (weighted_of b tones weights))
+  unfolding listened heard_block
+  agrees =
+      agrees_unless _ (agrees_refused Reason.Mode 0)
+      (agrees_unless _ (agrees_refused Reason.LeastLead 0)
+      (agrees_unless (not (eqb (length tones) 64)) (agrees_refused Reason.ToneCount 0)
+      (agrees_unless (not (eqb (length weights) 64)) (agrees_refused Reason.ToneCount 0)
+      (agrees_unless (ltb room b) (agrees_refused Reason.Room 0)
+      (agrees_unless (ltb (first_bad_tone (2 ^ b) tones) 64) (agrees_refused Reason.Tone (first_bad_tone (2 ^ b) tones))
+      (agrees_unless (ltb (first_bad_weight N weights) 64) (agrees_refused Reason.Weight (first_bad_weight N weights)) agrees_done))))))
+
+  -- what is left to check where the first checks are passed
+  module _ (p : Passed N b m (length tones) (length weights) room) where
+    left : listened N b m tones weights room
+        ≡ cond (ltb (first_bad_tone (2 ^ b) tones) 64) (Err (refused_at Reason.Tone (first_bad_tone (2 ^ b) tones)))
+        (cond (ltb (first_bad_weight N weights) 64) (Err (refused_at Reason.Weight (first_bad_weight N weights))) (Ok (padded (weighted_of b tones weights))))
+    unfolding listened
+    left = simp (p.mode, p.lead, eq-eqb (length tones) 64 p.count, eq-eqb (length weights) 64 p.weighed, le-ltb room b p.fits)
+
+    pub hears_tone : first_bad_tone (2 ^ b) tones < 64 → listened N b m tones weights room ≡ Err (refused_at Reason.Tone (first_bad_tone (2 ^ b) tones))
+    hears_tone h = rw (lt-ltb (first_bad_tone (2 ^ b) tones) 64 h) at left
+
+    module _ (r : 64 ≤ first_bad_tone (2 ^ b) tones) where
+      pub hears_weight : first_bad_weight N weights < 64 → listened N b m tones weights room ≡ Err (refused_at Reason.Weight (first_bad_weight N weights))
+      hears_weight h = rw (le-ltb (first_bad_tone (2 ^ b) tones) 64 r, lt-ltb (first_bad_weight N weights) 64 h) at left
+
+      pub hears : 64 ≤ first_bad_weight N weights → listened N b m tones weights room ≡ Ok (padded (weighted_of b tones weights))
+      hears h = rw (le-ltb (first_bad_tone (2 ^ b) tones) 64 r, le-ltb (first_bad_weight N weights) 64 h) at left
+
+  pub listened_refused : (r : Refusal) → listened N b m tones weights room ≡ Err r
+      → heard_block N b m tones weights room ≡ record { answer = Err r; characters = replicate 8 none }
+  listened_refused = agrees.refused_as
+
+  pub listened_passed : (found : List Character) → listened N b m tones weights room ≡ Ok found
+      → (found ≡ padded (weighted_of b tones weights)) × (heard_block N b m tones weights room ≡ judged b m (weighted_of b tones weights))
+  listened_passed = agrees.passed_as
+
+  pub listened_mode : (found : List Character) → listened N b m tones weights room ≡ Ok found → is_mode b ≡ true
+  unfolding listened
+  listened_mode found e = by (is_mode b) refl _ e
+    where
+      by : (t : Bool) → is_mode b ≡ t → (l : Answered (List Character)) → cond (not t) (Err (refused_at Reason.Mode 0)) l ≡ Ok found → is_mode b ≡ true
+      by true h l f = h
+      by false h l f = absurd cc
 
 -- the answer by an array that holds the block's characters
 pub same_decoded : (b m : ℕ) (tones weights : List ℕ) {answer : Answered ℕ} {found : List Character} → answer ≡ judgement_in b m found
@@ -100,12 +164,12 @@ module _ (N b m : ℕ) (tones weights out : List ℕ) where
 -- ---- an accepted block passed every check
 
 -- a text comes of the second of two answers, if the first is a refusal
-passes : (t : Bool) (number place n : ℕ) (d : BlockDecoded) → (cond t (refused number place) d).answer ≡ Ok n → (t ≡ false) × (d.answer ≡ Ok n)
+passes : (t : Bool) (reason : Reason) (place n : ℕ) (d : BlockDecoded) → (cond t (refused reason place) d).answer ≡ Ok n → (t ≡ false) × (d.answer ≡ Ok n)
 unfolding refused
-passes true number place n d e = let z : ◌≡◌ {A = ℕ} 0 1 = cc in absurd (omega arith)
-passes false number place n d e = (refl, e)
+passes true reason place n d e = let z : ◌≡◌ {A = ℕ} 0 1 = cc in absurd (omega arith)
+passes false reason place n d e = (refl, e)
 
-same_count : {b n : ℕ} → Ok b ≡ Ok n → n ≡ b
+same_count : {b n : ℕ} → ◌≡◌ {A = Answered ℕ} (Ok b) (Ok n) → n ≡ b
 same_count e = cc
 
 pub record Accepted (N b m : ℕ) (tones weights : List ℕ) (room n : ℕ) : Type 0 where

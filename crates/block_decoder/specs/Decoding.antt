@@ -80,8 +80,8 @@ unfoldable pub padded : List Character → List Character
 padded characters = over characters (replicate 8 none)
 
 -- a refusal before any character is decided
-unfoldable pub refused : ℕ → ℕ → BlockDecoded
-refused number place = record { answer = Err (refused_at number place); characters = replicate 8 none }
+unfoldable pub refused : Reason → ℕ → BlockDecoded
+refused reason place = record { answer = Err (refused_at reason place); characters = replicate 8 none }
 
 -- the answer for an output of room codes, where weights are 0 to N, and m is 1 to 64 * N
 unfoldable pub heard_block : ℕ → ℕ → ℕ → List ℕ → List ℕ → ℕ → BlockDecoded

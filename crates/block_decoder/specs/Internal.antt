@@ -1,14 +1,18 @@
 -- What only private contracts need: the symbols that are seen and the weights that count, and what is found in an answer's array of eight
 -- characters.
-use Rattle.std.specs.Prelude.{cond, List, ℕ, ltb, eqb, get_or, replicate, Ok, Err}
+use Rattle.std.specs.Prelude.{cond, not, List, ℕ, ◌^◌, ltb, eqb, length, get_or, replicate, Ok, Err}
 use Rattle.lists.specs.Lists.{tab, num, over}
 use Rattle.lists.specs.Places.{first}
-use Rattle.refusal.specs.Refused.{Answered, unclear_at}
+use Rattle.refusal.specs.Refused.{Answered, refused_at, unclear_at}
+use Rattle.refusal.specs.Checks.{is_mode, is_lead_at}
+use Rattle.refusal.specs.declared.Reason.{Reason}
 use Rattle.decision.specs.Decision.{none}
 use Rattle.decision.specs.declared.Character.{Character}
 use Rattle.chain.specs.Chain.{missing_mark}
 use Rattle.chain.specs.Tables.{symbol_of}
-use Rattle.block_decoder.specs.Decoding.{heard_weight, lead_in}
+use Rattle.tone_range.specs.Range.{first_bad_tone}
+use Rattle.weight_range.specs.Range.{first_bad_weight}
+use Rattle.block_decoder.specs.Decoding.{heard_weight, weighted_of, lead_in, padded}
 
 -- ---- symbols and weights
 
@@ -22,6 +26,19 @@ seen_to tones n = over (tab (λ t. seen_symbol (num tones t)) n) (replicate 64 0
 
 unfoldable pub heard_weights : List ℕ → List ℕ → List ℕ
 heard_weights tones weights = tab (λ t. heard_weight (num tones t) (num weights t)) 64
+
+-- ---- the decisions, or the refusal before any is made
+
+unfoldable pub listened : ℕ → ℕ → ℕ → List ℕ → List ℕ → ℕ → Answered (List Character)
+listened N b m tones weights room =
+    cond (not (is_mode b)) (Err (refused_at Reason.Mode 0))
+    (cond (not (is_lead_at N m)) (Err (refused_at Reason.LeastLead 0))
+    (cond (not (eqb (length tones) 64)) (Err (refused_at Reason.ToneCount 0))
+    (cond (not (eqb (length weights) 64)) (Err (refused_at Reason.ToneCount 0))
+    (cond (ltb room b) (Err (refused_at Reason.Room 0))
+    (cond (ltb (first_bad_tone (2 ^ b) tones) 64) (Err (refused_at Reason.Tone (first_bad_tone (2 ^ b) tones)))
+    (cond (ltb (first_bad_weight N weights) 64) (Err (refused_at Reason.Weight (first_bad_weight N weights)))
+    (Ok (padded (weighted_of b tones weights)))))))))
 
 -- ---- the first n characters of eight
 

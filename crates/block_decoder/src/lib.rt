@@ -2,8 +2,8 @@
 #![tactic(auto)]
 
 ghost use Rattle.std.specs.Prelude.{◌≡◌, ℕ, ◌≤◌, length};
-ghost use Rattle.block_decoder.specs.Decoding.{heard_weight, weighted_of, codes_of, refused, heard_block, decode_block, decode_weighted, heard_into, decoded_into, weighted_into};
-ghost use Rattle.block_decoder.specs.Internal.{judgement_in};
+ghost use Rattle.block_decoder.specs.Decoding.{heard_weight, weighted_of, codes_of, heard_block, decode_block, decode_weighted, heard_into, decoded_into, weighted_into};
+ghost use Rattle.block_decoder.specs.Internal.{listened, judgement_in};
 
 use chain::{MISSING, interleaver};
 use decision::{Character, NONE};
@@ -16,13 +16,6 @@ pub const GREATEST_WEIGHT: u8 = 15;
 
 // The weight of every symbol in plain hearing.
 pub const PLAIN_WEIGHT: u8 = 1;
-
-// The count of codes written, or the refusal.
-#[derive(Clone, Copy)]
-pub enum Decoded {
-    Text(usize),
-    Refused(Refusal),
-}
 
 // The answer, and the decisions on the mode's characters that it rests on, also where that is refusal 10; the rest of the eight are NONE.
 #[derive(Clone, Copy)]
@@ -95,40 +88,54 @@ fn hear(
     ensures answer { result ≡ heard_block greatest mode least_lead tones.now weights.now room }
     ensures output { codes.new ≡ heard_into (heard_block greatest mode least_lead tones.now weights.now room).answer (codes_of (weighted_of mode tones.now weights.now)) codes.old }
 {
-    if !checks::is_mode(mode) {
-        return refused(Reason::Mode, 0);
+    match listen(greatest, mode, least_lead, tones, weights, room) {
+        Ok(characters) => {
+            let answer = judge(mode as usize, least_lead, characters);
+            if let Ok(count) = answer {
+                decode::put_codes(count, characters, codes);
+            }
+            BlockDecoded { answer, characters }
+        }
+        Err(refusal) => BlockDecoded {
+            answer: Err(refusal),
+            characters: [NONE; 8],
+        },
     }
-    if !checks::is_lead_at(greatest, least_lead) {
-        return refused(Reason::LeastLead, 0);
-    }
-    if tones.len() != 64 {
-        return refused(Reason::ToneCount, 0);
-    }
-    if weights.len() != 64 {
-        return refused(Reason::ToneCount, 0);
-    }
-    let b = mode as usize;
+}
+
+// The decisions on the mode's characters, or the refusal before any is decided.
+fn listen(
+    greatest: u8,
+    mode: u32,
+    least_lead: u32,
+    tones: &[u16],
+    weights: &[u8],
+    room: usize,
+) -> Result<[Character; 8], Refusal>
+    requires { greatest ≤ 15 }
+    ensures { result ≡ listened greatest mode least_lead tones.now weights.now room }
+{
+    let b = checks::check_mode(mode)?;
+    checks::check_lead_at(greatest, least_lead)?;
+    let Some(tones) = tones.as_array::<64>() else {
+        return Err(Refusal::at(Reason::ToneCount, 0));
+    };
+    let Some(weights) = weights.as_array::<64>() else {
+        return Err(Refusal::at(Reason::ToneCount, 0));
+    };
     if room < b {
-        return refused(Reason::Room, 0);
+        return Err(Refusal::at(Reason::Room, 0));
     }
     let mut symbols = [0u8; 64];
-    let bad = decode::look(checks::tone_count(mode), tones, &mut symbols);
-    if bad < 64 {
-        return refused(Reason::Tone, bad);
+    if let Some(bad) = decode::look(checks::tone_count(mode), tones, &mut symbols) {
+        return Err(Refusal::at(Reason::Tone, bad));
     }
-    let bad_weight = weight_range::first_bad_weight(greatest, weights);
-    if bad_weight < 64 {
-        return refused(Reason::Weight, bad_weight);
+    if let Some(bad) = weight_range::first_bad_weight(greatest, weights) {
+        return Err(Refusal::at(Reason::Weight, bad));
     }
     let heard = decode::heard_weights(tones, weights);
     let values = interleaver::values(mode);
-    let characters = characters::decide(mode, 0, &values, &symbols, &heard);
-    let answer = judge(b, least_lead, characters);
-    match answer {
-        Ok(count) => decode::put_codes(count, characters, codes),
-        Err(_) => {}
-    }
-    BlockDecoded { answer, characters }
+    Ok(characters::decide(mode, 0, &values, &symbols, &heard))
 }
 
 // The weight that a tone counts with: a missing one has none, whatever was sent.
@@ -138,23 +145,16 @@ pub fn heard_weight(tone: u16, weight: u8) -> u8
     if tone == MISSING { 0 } else { weight }
 }
 
-fn refused(number: u8, place: usize) -> BlockDecoded
-    ensures { result ≡ refused number place }
-{
-    BlockDecoded {
-        answer: Err(Refusal::at(number, place)),
-        characters: [NONE; 8],
-    }
-}
-
+// The mode, or the refusal of the lowest of its characters whose lead is under least_lead.
 fn judge(mode: usize, least_lead: u32, characters: [Character; 8]) -> Result<usize, Refusal>
     requires { mode ≤ 8 }
     ensures { result ≡ judgement_in mode least_lead characters }
 {
-    let q = decode::first_unclear(mode, least_lead, characters);
-    if q < mode {
+    for q in 0..mode {
         let character = characters[q];
-        return Err(Refusal::unclear(q, character.lead));
+        if character.lead < least_lead {
+            return Err(Refusal::unclear(q, character.lead));
+        }
     }
     Ok(mode)
 }

@@ -1,5 +1,4 @@
-use mathlib.Core.Path.{◌≡◌}
-use Prim.Native.Nat.{◌≤◌, ◌-◌}
+use Rattle.std.proofs.Common.{◌≡◌, ◌+◌, ◌-◌}
 use Rattle.lists.specs.Places.{scan}
 use Rattle.tone_range.specs.Range.{bad_tone}
 use Rattle.block_decoder.specs.Internal.{seen_to}
@@ -7,7 +6,4 @@ use Rattle.block_decoder.proofs.decode.look_row.Given as goal
 
 abbrev pub invariant-loop-t : goal.invariant-loop-t
 invariant-loop-t l =
-    (l.from ≤ l.t) × (l.t ≤ l.end) × (scan (bad_tone l.limit l.tones) l.t (l.end - l.t) ≡ scan (bad_tone l.limit l.tones) l.from 16) × (l.symbols ≡ seen_to l.tones l.t)
-
-abbrev pub decreases-loop-t : goal.decreases-loop-t
-decreases-loop-t l = l.end - l.t
+    (scan (bad_tone l.limit l.tones) l.t (l.from + 16 - l.t) ≡ scan (bad_tone l.limit l.tones) l.from 16) × (l.symbols ≡ seen_to l.tones l.t)

@@ -1,5 +1,4 @@
 use mathlib.Core.Path.{◌≡◌}
-use Prim.Native.Nat.{◌≤◌, ◌-◌}
 use lib.ListN.{length}
 use Rattle.lists.specs.Lists.{tab, over}
 use Rattle.block_decoder.specs.Internal.{code_in}
@@ -7,7 +6,4 @@ use Rattle.block_decoder.proofs.decode.put_codes.Given as goal
 
 abbrev pub invariant-loop-q : goal.invariant-loop-q
 invariant-loop-q l =
-    (l.q ≤ l.count) × (length l.codes ≡ length l.initial.codes) × (l.codes ≡ over (tab (code_in l.characters) l.q) l.initial.codes)
-
-abbrev pub decreases-loop-q : goal.decreases-loop-q
-decreases-loop-q l = l.count - l.q
+    (length l.codes ≡ length l.initial.codes) × (l.codes ≡ over (tab (code_in l.characters) l.q) l.initial.codes)
