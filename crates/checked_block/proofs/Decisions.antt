@@ -8,6 +8,7 @@ use lib.ListN.{length}
 use Rattle.lists.specs.Lists.{tab, over}
 use Rattle.refusal.specs.Refused.{Answered, refused_at, unclear_at}
 use Rattle.refusal.specs.Checks.{IsSet}
+use Rattle.refusal.specs.declared.Reason.{Reason}
 use Rattle.refusal.specs.declared.Refusal.{Refusal}
 use Rattle.decision.specs.declared.Character.{Character}
 use Rattle.block_decoder.specs.Decoding.{plain, characters_of, codes_of, lead_in, unless_unclear, padded, refused, decode_block, heard_into, heard_block_into}
@@ -48,16 +49,16 @@ module _ (b m : ℕ) (tones : List ℕ) (found : List Character) (e : found ≡ 
 -- ---- by the checks
 
 module _ (b m : ℕ) (tones codes : List ℕ) where
-  answered : (number place : ℕ) → decode_block b m (tones_below (2 ^ b) tones) (length codes) ≡ refused number place
-      → decode_checked b m tones (length codes) ≡ Err (refused_at number place)
+  answered : (reason : Reason) (place : ℕ) → decode_block b m (tones_below (2 ^ b) tones) (length codes) ≡ refused reason place
+      → decode_checked b m tones (length codes) ≡ Err (refused_at reason place)
   unfolding refused
-  answered number place e = ap (λ (d : BlockDecoded). d.answer) e
+  answered reason place e = ap (λ (d : BlockDecoded). d.answer) e
 
   -- a refusal that is told, with the output as it was
-  pub refusal_told_lem : {r : Refusal} (number place : ℕ) → r ≡ refused_at number place → decode_block b m (tones_below (2 ^ b) tones) (length codes) ≡ refused number place
+  pub refusal_told_lem : {r : Refusal} (reason : Reason) (place : ℕ) → r ≡ refused_at reason place → decode_block b m (tones_below (2 ^ b) tones) (length codes) ≡ refused reason place
       → (Err r ≡ decode_checked b m tones (length codes)) × (codes ≡ checked_into b m tones codes)
-  refusal_told_lem number place p e =
-      let a = answered number place e in
+  refusal_told_lem reason place p e =
+      let a = answered reason place e in
       (ap Err p ∙ sym a, sym (codes_kept 1 b m (tones_below (2 ^ b) tones) plain codes a))
 
   -- what the characters are answered with, and the output after it

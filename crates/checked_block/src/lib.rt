@@ -1,7 +1,7 @@
 // A block of a message, decoded: its tones were checked before, with all of the message, and its records are not told.
 #![tactic(auto)]
 
-ghost use Rattle.std.specs.Prelude.{◌≡◌, true, ◌+◌, ◌≤◌, ◌^◌, length};
+ghost use Rattle.std.specs.Prelude.{◌≡◌, true, Ok, ◌+◌, ◌≤◌, ◌^◌, length};
 ghost use Rattle.lists.specs.Lists.{tab};
 ghost use Rattle.refusal.specs.Checks.{is_mode};
 ghost use Rattle.chain.specs.Tables.{symbol_of};
@@ -19,25 +19,26 @@ pub fn decode(mode: u32, least_lead: u32, tones: &[u16], codes: &mut [u8]) -> Re
     ensures answer { result ≡ decode_checked mode least_lead tones.now (length codes.old) }
     ensures output { codes.new ≡ checked_into mode least_lead tones.now codes.old }
 {
-    if !checks::is_mode(mode) {
-        return Err(Refusal::at(Reason::Mode, 0));
-    }
-    if !checks::is_lead(least_lead) {
-        return Err(Refusal::at(Reason::LeastLead, 0));
-    }
-    if tones.len() != 64 {
+    let b = checks::check_mode(mode)?;
+    checks::check_lead(least_lead)?;
+    let Some(tones) = tones.as_array::<64>() else {
         return Err(Refusal::at(Reason::ToneCount, 0));
-    }
-    if codes.len() < mode as usize {
+    };
+    if codes.len() < b {
         return Err(Refusal::at(Reason::Room, 0));
     }
     decide(mode, least_lead, tones, codes)
 }
 
 // Decides the characters. Both loops stand here, since functions that are handed the characters take more instructions.
-fn decide(mode: u32, least_lead: u32, tones: &[u16], codes: &mut [u8]) -> Result<usize, Refusal>
-    requires { (is_mode mode ≡ true) × (length tones.now ≡ 64) × (mode ≤ length codes.old) }
-    ensures answer { result ≡ unless_unclear least_lead (characters_of mode (tones_below (2 ^ mode) tones.now)) (Text mode) }
+fn decide(
+    mode: u32,
+    least_lead: u32,
+    tones: &[u16; 64],
+    codes: &mut [u8],
+) -> Result<usize, Refusal>
+    requires { (is_mode mode ≡ true) × (mode ≤ length codes.old) }
+    ensures answer { result ≡ unless_unclear least_lead (characters_of mode (tones_below (2 ^ mode) tones.now)) (Ok mode) }
     ensures output { codes.new ≡ heard_into result (codes_of (characters_of mode (tones_below (2 ^ mode) tones.now))) codes.old }
 {
     let mut symbols = [0u8; 64];
@@ -46,65 +47,53 @@ fn decide(mode: u32, least_lead: u32, tones: &[u16], codes: &mut [u8]) -> Result
     let values = interleaver::values(mode);
     let characters = characters::decide(mode, 0, &values, &symbols, &weights);
     let b = mode as usize;
-    let mut q: usize = 0;
-    while q < b {
+    for q in 0..b {
         let character = characters[q];
         if character.lead < least_lead {
             return Err(Refusal::unclear(q, character.lead));
         }
-        q += 1;
     }
-    let mut written: usize = 0;
-    while written < b {
-        let character = characters[written];
-        codes[written] = character.code;
-        written += 1;
+    for q in 0..b {
+        codes[q] = characters[q].code;
     }
-    Ok(written)
+    Ok(b)
 }
 
 // The symbols of 64 tones by their lowest eight bits. Rows of 16 become straight code.
-fn put_symbols(tones: &[u16], symbols: &mut [u8])
-    requires { (length tones.now ≡ 64) × (symbols.old ≡ symbols_to tones.now 0) }
+fn put_symbols(tones: &[u16; 64], symbols: &mut [u8; 64])
+    requires { symbols.old ≡ symbols_to tones.now 0 }
     ensures { symbols.new ≡ symbols_to tones.now 64 }
 {
     let table = gray::symbols();
-    let mut t: usize = 0;
-    while t < 64 {
-        put_row(&table, t, tones, symbols);
-        t += 16;
+    for row in 0..4 {
+        put_row(&table, 16 * row, tones, symbols);
     }
 }
 
-fn put_row(table: &[u8; 256], from: usize, tones: &[u16], symbols: &mut [u8])
-    requires { (table.now ≡ tab symbol_of 256) × (from + 16 ≤ 64) × (length tones.now ≡ 64) × (symbols.old ≡ symbols_to tones.now from) }
+fn put_row(table: &[u8; 256], from: usize, tones: &[u16; 64], symbols: &mut [u8; 64])
+    requires { (table.now ≡ tab symbol_of 256) × (from + 16 ≤ 64) × (symbols.old ≡ symbols_to tones.now from) }
     ensures { symbols.new ≡ symbols_to tones.now (from + 16) }
 {
-    let end = from + 16;
-    let mut t = from;
-    while t < end {
+    for t in from..from + 16 {
         symbols[t] = table[(tones[t] % 256) as usize];
-        t += 1;
     }
 }
 
-// A tone that is none of the mode's counts nothing.
-fn weights(limit: u16, tones: &[u16]) -> [u8; 64]
-    requires { length tones.now ≡ 64 }
+// What each tone counts.
+fn weights(limit: u16, tones: &[u16; 64]) -> [u8; 64]
     ensures { result ≡ weights_below limit tones.now }
 {
     let mut weights = [0u8; 64];
-    let mut t: usize = 0;
-    while t < 64 {
+    for t in 0..64 {
         weights[t] = weight(limit, tones[t]);
-        t += 1;
     }
     weights
 }
 
 // What a tone counts: a tone that is none of the mode's counts nothing.
+#[tactic(auto, unfolding(crate::specs::Checked::weight_below))]
 pub fn weight(limit: u16, tone: u16) -> u8
     ensures { result ≡ weight_below limit tone }
 {
-    if tone < limit { 1 } else { 0 }
+    u8::from(tone < limit)
 }

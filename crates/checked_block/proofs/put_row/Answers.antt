@@ -8,14 +8,14 @@ use Rattle.checked_block.proofs.put_row.Goals as goal
 use Rattle.checked_block.proofs.put_row.Goals.{Start, At-loop-t}
 
 pub loop-t-init : goal.loop-t-init
-loop-t-init c = (search rules, search rules, c.requires.3)
+loop-t-init c = c.requires.2
 
 -- as many symbols as at the start
 length_first : (s : Start) → length s.args.symbols.now ≡ 64
-length_first s = rw s.requires.3 (symbols_length s.args.tones.now s.args.from (omega (arith, s.requires.1)))
+length_first s = rw s.requires.2 (symbols_length s.args.tones.now s.args.from (omega (arith, s.requires.1)))
 
 length_kept : (l : At-loop-t) → length l.loop-t.symbols ≡ 64
-length_kept l = rw l.loop-t.invariant.2 (symbols_length l.args.tones.now l.loop-t.t (omega (arith, l.loop-t.invariant.1, l.requires.1)))
+length_kept l = rw l.loop-t.invariant (symbols_length l.args.tones.now l.loop-t.t (omega (arith, l.requires.1)))
 
 pub bounds-symbols-t : goal.bounds-symbols-t
 bounds-symbols-t c = omega (arith, length_kept (goal.at.bounds-symbols-t c).At-loop-t, c.requires.1)
@@ -23,10 +23,10 @@ bounds-symbols-t c = omega (arith, length_kept (goal.at.bounds-symbols-t c).At-l
 pub loop-t-preserved : goal.loop-t-preserved
 loop-t-preserved c =
     let l = c.loop-t in
-    (search rules, search rules, put_symbol c.args.tones.now l.t l.symbols c.args.table.now (omega (arith, c.requires.1)) l.invariant.2 c.requires.0)
+    put_symbol c.args.tones.now l.t l.symbols c.args.table.now (omega (arith, c.requires.1)) l.invariant c.requires.0
 
 pub returns : goal.returns
 returns c =
     let l = c.loop-t in
     let done : l.t ≡ c.args.from + 16 = omega arith in
-    rw done at l.invariant.2
+    rw done at l.invariant

@@ -6,7 +6,4 @@ use Rattle.checked_block.specs.Checked.{weight_below}
 use Rattle.checked_block.proofs.weights.Given as goal
 
 abbrev pub invariant-loop-t : goal.invariant-loop-t
-invariant-loop-t l = (l.t ≤ 64) × (l.weights ≡ over (tab (λ k. weight_below l.limit (num l.tones k)) l.t) (replicate 64 0))
-
-abbrev pub decreases-loop-t : goal.decreases-loop-t
-decreases-loop-t l = 64 - l.t
+invariant-loop-t l = (l.weights ≡ over (tab (λ k. weight_below l.limit (num l.tones k)) l.t) (replicate 64 0))
