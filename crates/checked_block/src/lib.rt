@@ -31,12 +31,7 @@ pub fn decode(mode: u32, least_lead: u32, tones: &[u16], codes: &mut [u8]) -> Re
 }
 
 // Decides the characters. Both loops stand here, since functions that are handed the characters take more instructions.
-fn decide(
-    mode: u32,
-    least_lead: u32,
-    tones: &[u16; 64],
-    codes: &mut [u8],
-) -> Result<usize, Refusal>
+fn decide(mode: u32, least_lead: u32, tones: &[u16; 64], codes: &mut [u8]) -> Result<usize, Refusal>
     requires { (is_mode mode ≡ true) × (mode ≤ length codes.old) }
     ensures answer { result ≡ unless_unclear least_lead (characters_of mode (tones_below (2 ^ mode) tones.now)) (Ok mode) }
     ensures output { codes.new ≡ heard_into result (codes_of (characters_of mode (tones_below (2 ^ mode) tones.now))) codes.old }

@@ -10,11 +10,14 @@ use lib.Dec.{ltb, leb, lit≤}
 use lib.ListN.{length, replicate}
 use lib.Pow.{pow_mono}
 use Rattle.lists.specs.Lists.{tab, num, over}
-use Rattle.lists.specs.Places.{scan, first}
+use Rattle.lists.specs.Places.{first}
+use Rattle.lists.specs.Found.{found}
+use Rattle.lists.proofs.Found.{found_past}
 use Rattle.lists.proofs.Fronts.{over_tab_whole}
 use Rattle.lists.proofs.Places.{first_ext, first_none}
 use Rattle.refusal.specs.Checks.{is_mode, is_lead, IsSet}
 use Rattle.refusal.proofs.Limits.{mode_range}
+use Rattle.refusal.specs.declared.Reason.{Reason}
 use Rattle.decision.specs.declared.Character.{Character}
 use Rattle.chain.specs.Tables.{symbol_of, place_value}
 use Rattle.block_decoder.specs.Decoding.{plain, characters_of, lead_in, first_unclear, unless_unclear, refused, decode_block}
@@ -29,7 +32,7 @@ use Rattle.checked_block.proofs.CheckedTones.{below_in_range}
 use Rattle.search.specs.Starts.{longest_run, stretch_at, starts, is_text, accepted_at, first_accepted}
 use Rattle.search.specs.Internal.{clear_by}
 use Rattle.search.proofs.Windows.{stretch_length, window_kept}
-use Rattle.std.proofs.Common.{Ok}
+use Rattle.std.proofs.Common.{None, Ok}
 
 -- ---- 64 tones
 
@@ -71,30 +74,27 @@ module _ (b m : ℕ) (s : IsSet b m) (values : List ℕ) (v : values ≡ tab (pl
 -- ---- the answer for any mode, set lead and run
 
 module _ (b m : ℕ) (run : List ℕ) where
-  pub too_short : length run < 64 → 0 ≡ first_accepted b m run
-  unfolding first_accepted scan
-  too_short h =
-      let none : starts run ≡ 0 = omega arith in
-      rw (le-ltb longest_run (length run) (omega arith), none)
+  pub too_short : length run < 64 → None ≡ found (starts run) (first_accepted b m run)
+  too_short h = sym (found_past (starts run) _ (omega arith))
 
-  pub too_long : longest_run < length run → starts run ≡ first_accepted b m run
+  pub too_long : longest_run < length run → None ≡ found (starts run) (first_accepted b m run)
   unfolding first_accepted
-  too_long h = rw (lt-ltb longest_run (length run) h)
+  too_long h = rw (lt-ltb longest_run (length run) h) (sym (found_past (starts run) (starts run) (omega arith)))
 
   module _ (h : length run ≤ longest_run) where
     pub searched : first (accepted_at b m run) (starts run) ≡ first_accepted b m run
     unfolding first_accepted
     searched = rw (le-ltb longest_run (length run) h)
 
-    never : ((start : ℕ) → accepted_at b m run start ≡ false) → starts run ≡ first_accepted b m run
-    never f = sym (first_none (accepted_at b m run) (starts run) (λ start l. f start)) ∙ searched
+    never : ((start : ℕ) → accepted_at b m run start ≡ false) → None ≡ found (starts run) (first_accepted b m run)
+    never f = sym (found_past (starts run) _ (omega (arith, sym (first_none (accepted_at b m run) (starts run) (λ start l. f start)) ∙ searched)))
 
-    refused_there : (start number : ℕ) → decode_block b m (tones_below (2 ^ b) (stretch_at run start)) b ≡ refused number 0 → accepted_at b m run start ≡ false
+    refused_there : (start : ℕ) (reason : Reason) → decode_block b m (tones_below (2 ^ b) (stretch_at run start)) b ≡ refused reason 0 → accepted_at b m run start ≡ false
     unfolding accepted_at refused
-    refused_there start number e = ap (λ (d : BlockDecoded). is_text d.answer) e
+    refused_there start reason e = ap (λ (d : BlockDecoded). is_text d.answer) e
 
-    pub no_mode : is_mode b ≡ false → starts run ≡ first_accepted b m run
-    no_mode e = never (λ start. refused_there start 1 (refuses_mode 1 b m _ plain b e))
+    pub no_mode : is_mode b ≡ false → None ≡ found (starts run) (first_accepted b m run)
+    no_mode e = never (λ start. refused_there start Reason.Mode (refuses_mode 1 b m _ plain b e))
 
-    pub no_lead : is_mode b ≡ true → is_lead m ≡ false → starts run ≡ first_accepted b m run
-    no_lead e f = never (λ start. refused_there start 2 (refuses_lead 1 b m _ plain b e f))
+    pub no_lead : is_mode b ≡ true → is_lead m ≡ false → None ≡ found (starts run) (first_accepted b m run)
+    no_lead e f = never (λ start. refused_there start Reason.LeastLead (refuses_lead 1 b m _ plain b e f))

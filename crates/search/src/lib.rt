@@ -4,6 +4,7 @@
 ghost use Rattle.std.specs.Prelude.{◌≡◌, ◌+◌, ◌≤◌, ◌%◌, length};
 ghost use Rattle.lists.specs.Lists.{tab, num, over};
 ghost use Rattle.lists.specs.Places.{first};
+ghost use Rattle.lists.specs.Found.{found};
 ghost use Rattle.refusal.specs.Checks.{IsSet};
 ghost use Rattle.chain.specs.Tables.{symbol_of};
 ghost use Rattle.checked_block.specs.Checked.{weight_below};
@@ -16,48 +17,38 @@ use refusal::checks;
 // The most tones that a run may have.
 pub const LONGEST_RUN: usize = 4096;
 
-// The first start of a run at which 64 tones are accepted, else the count of starts. A tone that is none of the mode's counts as missing.
-pub fn first_accepted(mode: u32, least_lead: u32, run: &[u16]) -> usize
-    ensures { result ≡ first_accepted mode least_lead run.now }
+// The first start of a run at which 64 tones are accepted, if there is one. A tone that is none of the mode's counts as missing.
+pub fn first_accepted(mode: u32, least_lead: u32, run: &[u16]) -> Option<usize>
+    ensures { result ≡ found (starts run.now) (first_accepted mode least_lead run.now) }
 {
-    if run.len() < 64 {
-        return 0;
+    if run.len() < 64 || LONGEST_RUN < run.len() {
+        return None;
     }
-    let count = run.len() - 63;
-    if LONGEST_RUN < run.len() {
-        return count;
-    }
-    if !checks::is_mode(mode) {
-        return count;
-    }
-    if !checks::is_lead(least_lead) {
-        return count;
+    if !checks::is_mode(mode) || !checks::is_lead(least_lead) {
+        return None;
     }
     first_clear(mode, least_lead, run)
 }
 
 // Symbols, weights and tables are made once for the run, and a start is given up at its first unclear character.
-fn first_clear(mode: u32, least_lead: u32, run: &[u16]) -> usize
+fn first_clear(mode: u32, least_lead: u32, run: &[u16]) -> Option<usize>
     requires settings { IsSet mode least_lead }
     requires count { (64 ≤ length run.now) × (length run.now ≤ 4096) }
-    ensures { result ≡ first (accepted_at mode least_lead run.now) (starts run.now) }
+    ensures { result ≡ found (starts run.now) (first (accepted_at mode least_lead run.now) (starts run.now)) }
 {
     let mut symbols = [0u8; 4096];
     put_symbols(run, &mut symbols);
     let mut weights = [0u8; 4096];
     put_weights(checks::tone_count(mode), run, &mut weights);
     let values = interleaver::values(mode);
-    let count = run.len() - 63;
-    let mut start: usize = 0;
-    while start < count {
+    for start in 0..run.len() - 63 {
         let heard = window(start, &symbols);
         let counting = window(start, &weights);
-        if is_clear(mode, least_lead, &values, &heard, &counting) {
-            return start;
+        if is_clear(mode, least_lead, &values, heard, counting) {
+            return Some(start);
         }
-        start += 1;
     }
-    start
+    None
 }
 
 // The symbols of the tones by their lowest eight bits, over the front of symbols.
@@ -66,10 +57,8 @@ fn put_symbols(run: &[u16], symbols: &mut [u8])
     ensures { symbols.new ≡ over (tab (λ t. symbol_of (num run.now t % 256)) (length run.now)) symbols.old }
 {
     let table = gray::symbols();
-    let mut t: usize = 0;
-    while t < run.len() {
+    for t in 0..run.len() {
         symbols[t] = table[(run[t] % 256) as usize];
-        t += 1;
     }
 }
 
@@ -78,25 +67,17 @@ fn put_weights(limit: u16, run: &[u16], weights: &mut [u8])
     requires { length run.now ≤ length weights.old }
     ensures { weights.new ≡ over (tab (λ t. weight_below limit (num run.now t)) (length run.now)) weights.old }
 {
-    let mut t: usize = 0;
-    while t < run.len() {
+    for t in 0..run.len() {
         weights[t] = checked_block::weight(limit, run[t]);
-        t += 1;
     }
 }
 
 // The 64 numbers from a start on.
-fn window(start: usize, numbers: &[u8]) -> [u8; 64]
+fn window(start: usize, numbers: &[u8]) -> &[u8; 64]
     requires { start + 64 ≤ length numbers.now }
-    ensures { result ≡ tab (λ t. num numbers.now (start + t)) 64 }
+    ensures { result.now ≡ tab (λ t. num numbers.now (start + t)) 64 }
 {
-    let mut window = [0u8; 64];
-    let mut t: usize = 0;
-    while t < 64 {
-        window[t] = numbers[start + t];
-        t += 1;
-    }
-    window
+    numbers[start..start + 64].as_array().unwrap()
 }
 
 // Whether the lead of every character of a block is at least least_lead. If not, the last of the mode's is the first whose lead is under it, or it was

@@ -3,7 +3,6 @@ use Prim.Native.Nat.{ℕ, ◌^◌}
 use lib.Pow.{pow_mono}
 use native.Mathlib.Omega.{arith}
 use lib.ListN.{length-set}
-use borrow.Author.Rules.{rules}
 use borrow.Author.Tests.{lt-ltb, le-ltb}
 use Rattle.lists.proofs.Fronts.{over_start, over_set}
 use Rattle.lists.proofs.Places.{scan_start, scan_hit, scan_miss, scan_end}

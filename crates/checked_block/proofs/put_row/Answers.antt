@@ -2,7 +2,6 @@ use mathlib.Core.Path.{◌≡◌}
 use Prim.Native.Nat.{◌+◌}
 use native.Mathlib.Omega.{arith}
 use lib.ListN.{length}
-use borrow.Author.Rules.{rules}
 use Rattle.checked_block.proofs.CheckedCounts.{symbols_length, put_symbol}
 use Rattle.checked_block.proofs.put_row.Goals as goal
 use Rattle.checked_block.proofs.put_row.Goals.{Start, At-loop-t}

@@ -1,5 +1,4 @@
 use mathlib.Core.Path.{◌≡◌}
-use Prim.Native.Nat.{◌≤◌, ◌-◌}
 use Rattle.checked_block.specs.Internal.{symbols_to}
 use Rattle.checked_block.proofs.put_row.Given as goal
 

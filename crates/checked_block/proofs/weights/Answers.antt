@@ -2,7 +2,6 @@ use mathlib.Core.Path.{◌≡◌, ◌∙◌}
 use native.Mathlib.Omega.{arith}
 use lib.Dec.{lit≤}
 use lib.ListN.{replicate}
-use borrow.Author.Rules.{rules}
 use Rattle.lists.specs.Lists.{num}
 use Rattle.lists.proofs.Fronts.{over_start, over_set, over_tab_whole}
 use Rattle.checked_block.specs.Checked.{weight_below}

@@ -1,5 +1,4 @@
 use mathlib.Core.Path.{◌≡◌}
-use Prim.Native.Nat.{◌-◌, ◌≤◌}
 use lib.ListN.{replicate}
 use Rattle.lists.specs.Lists.{tab, num, over}
 use Rattle.checked_block.specs.Checked.{weight_below}

@@ -1,5 +1,5 @@
 use mathlib.Core.Path.{◌≡◌}
-use Prim.Native.Nat.{◌%◌, ◌≤◌, ◌-◌}
+use Prim.Native.Nat.{◌%◌}
 use lib.ListN.{length}
 use Rattle.lists.specs.Lists.{tab, num, over}
 use Rattle.chain.specs.Tables.{symbol_of}
@@ -7,7 +7,4 @@ use Rattle.search.proofs.put_symbols.Given as goal
 
 abbrev pub invariant-loop-t : goal.invariant-loop-t
 invariant-loop-t l =
-    (l.t ≤ length l.run) × (length l.symbols ≡ length l.initial.symbols) × (l.symbols ≡ over (tab (λ k. symbol_of (num l.run k % 256)) l.t) l.initial.symbols)
-
-abbrev pub decreases-loop-t : goal.decreases-loop-t
-decreases-loop-t l = length l.run - l.t
+    (length l.symbols ≡ length l.initial.symbols) × (l.symbols ≡ over (tab (λ k. symbol_of (num l.run k % 256)) l.t) l.initial.symbols)

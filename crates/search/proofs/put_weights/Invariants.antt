@@ -1,5 +1,4 @@
 use mathlib.Core.Path.{◌≡◌}
-use Prim.Native.Nat.{◌≤◌, ◌-◌}
 use lib.ListN.{length}
 use Rattle.lists.specs.Lists.{tab, num, over}
 use Rattle.checked_block.specs.Checked.{weight_below}
@@ -7,7 +6,4 @@ use Rattle.search.proofs.put_weights.Given as goal
 
 abbrev pub invariant-loop-t : goal.invariant-loop-t
 invariant-loop-t l =
-    (l.t ≤ length l.run) × (length l.weights ≡ length l.initial.weights) × (l.weights ≡ over (tab (λ k. weight_below l.limit (num l.run k)) l.t) l.initial.weights)
-
-abbrev pub decreases-loop-t : goal.decreases-loop-t
-decreases-loop-t l = length l.run - l.t
+    (length l.weights ≡ length l.initial.weights) × (l.weights ≡ over (tab (λ k. weight_below l.limit (num l.run k)) l.t) l.initial.weights)

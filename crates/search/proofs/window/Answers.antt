@@ -1,21 +1,14 @@
-use mathlib.Core.Path.{◌≡◌, refl, ◌∙◌}
-use native.Mathlib.Omega.{arith}
-use lib.Dec.{lit≤}
-use lib.ListN.{replicate}
-use borrow.Author.Rules.{rules}
-use Rattle.lists.proofs.Fronts.{over_start, over_set, over_tab_whole}
+use Rattle.std.proofs.Common.{ℕ, List, ◌∙◌, ap, ◌+◌, ◌-◌, length, arith}
+use lib.ListN.{drop}
+use lib.Seq.{get_or-take, get_or-drop}
+use Rattle.lists.specs.Lists.{num}
+use Rattle.lists.proofs.Tables.{is_tab}
 use Rattle.search.proofs.window.Goals as goal
-
-pub loop-t-init : goal.loop-t-init
-loop-t-init c = (search rules, over_start _ _)
-
-pub loop-t-preserved : goal.loop-t-preserved
-loop-t-preserved c =
-    let l = c.loop-t in
-    (search rules, over_set 0 _ l.t (replicate 64 0) _ _ (omega arith) l.invariant.1 refl)
 
 pub returns : goal.returns
 returns c =
-    let l = c.loop-t in
-    let done : l.t ≡ 64 = omega arith in
-    rw done at l.invariant.1 ∙ over_tab_whole _ 64 _ (lit≤ tt)
+    let start = c.args.start in
+    let numbers = c.args.numbers.now in
+    let whole = rw c.unwrap.ensures at c.as_array.ensures.cases in
+    is_tab _ 0 64 _ (ap length whole.same ∙ whole.long)
+    (λ t h. ap (λ (x : List ℕ). num x t) whole.same ∙ get_or-take (start + 64 - start) (drop start numbers) t 0 (omega arith) ∙ get_or-drop start numbers t 0)
