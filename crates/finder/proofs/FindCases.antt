@@ -1,14 +1,15 @@
 -- `found_start`, `find_block` and `found_into`: an equation for each answer, under the checks that lead to it, and back.
-use mathlib.Core.Path.{◌≡◌, refl, ◌∙◌, ap}
+use mathlib.Core.Path.{◌≡◌, refl, sym, ◌∙◌, ap}
 use mathlib.Core.Bool.{Bool, true, false, cond, not}
 use mathlib.Core.List.{List}
 use Prim.Native.Nat.{ℕ, ◌+◌, ◌-◌, ◌<◌, ◌≤◌, ◌^◌}
+use native.Mathlib.Decide.{dec_lt}
 use native.Mathlib.Omega.{arith}
 use borrow.Author.Tests.{lt-ltb, le-ltb, ltb-true, ltb-false, not-false}
 use lib.Dec.{ltb, lit≤}
 use lib.ListN.{length, take, drop, replicate}
 use Rattle.refusal.specs.declared.Refusal.{Refusal}
-use Rattle.refusal.specs.Refused.{Answered, refused_at}
+use Rattle.refusal.specs.Refused.{Answered, number_of, refused_at}
 use Rattle.refusal.specs.Checks.{is_mode, is_lead, IsSet}
 use Rattle.decision.specs.Decision.{none}
 use Rattle.tone_range.specs.Range.{first_bad_tone}
@@ -20,7 +21,10 @@ use Rattle.finder.specs.Finding.{first_start, is_run, found_start, records_of, f
 use Rattle.finder.specs.Stretch.{InRun}
 use Rattle.finder.proofs.Parts.{start_fits}
 use Rattle.finder.proofs.Starts.{stretch_part}
+use Rattle.std.specs.Option.{ok_or}
 use Rattle.std.proofs.Common.{Ok, Err}
+use Rattle.lists.specs.Found.{found}
+use Rattle.lists.proofs.Found.{found_at, found_past}
 use Rattle.refusal.specs.declared.Reason.{Reason}
 
 -- what the checks before the tones' range leave
@@ -59,36 +63,44 @@ module _ (b m : ℕ) (run : List ℕ) (room : ℕ) where
     refuses_tone h = rw (lt-ltb (first_bad_tone (2 ^ b) run) (length run) h) at in_range
 
     module _ (good : length run ≤ first_bad_tone (2 ^ b) run) where
-      pub tells_start : first_start b m run room < starts run → found_start b m run room ≡ Ok (first_start b m run room)
+      tells_start : first_start b m run room < starts run → found_start b m run room ≡ Ok (first_start b m run room)
       tells_start h = rw (le-ltb (first_bad_tone (2 ^ b) run) (length run) good, lt-ltb (first_start b m run room) (starts run) h) at in_range
 
-      pub tells_none : starts run ≤ first_start b m run room → found_start b m run room ≡ Err (refused_at Reason.NotFound 0)
+      tells_none : starts run ≤ first_start b m run room → found_start b m run room ≡ Err (refused_at Reason.NotFound 0)
       tells_none h = rw (le-ltb (first_bad_tone (2 ^ b) run) (length run) good, le-ltb (first_start b m run room) (starts run) h) at in_range
+
+      -- the start that the search finds, or that it finds none
+      pub tells : ok_or (found (starts run) (first_start b m run room)) (refused_at Reason.NotFound 0) ≡ found_start b m run room
+      tells = by (dec_lt (first_start b m run room) (starts run))
+        where
+          by : Dec (first_start b m run room < starts run) → ok_or (found (starts run) (first_start b m run room)) (refused_at Reason.NotFound 0) ≡ found_start b m run room
+          by (yes l) = rw (found_at (starts run) (first_start b m run room) l) (sym (tells_start l))
+          by (no g) = let past : starts run ≤ first_start b m run room = omega arith in rw (found_past (starts run) (first_start b m run room) past) (sym (tells_none past))
 
 -- ---- an answer of the search passed every check
 
-abbrev number_of : Answered ℕ → ℕ
-number_of (Ok start) = 0
-number_of (Err r) = r.number
+abbrev answer_number : Answered ℕ → ℕ
+answer_number (Ok start) = 0
+answer_number (Err r) = number_of r.reason
 
-passes : (t : Bool) (number place : ℕ) (y z : Answered ℕ) → cond t (Err (refused_at number place)) y ≡ z → (Err (refused_at number place) ≡ z → ⊥) → (t ≡ false) × (y ≡ z)
-passes true number place y z e n = absurd (n e)
-passes false number place y z e n = (refl, e)
+passes : (t : Bool) (reason : Reason) (place : ℕ) (y z : Answered ℕ) → cond t (Err (refused_at reason place)) y ≡ z → (Err (refused_at reason place) ≡ z → ⊥) → (t ≡ false) × (y ≡ z)
+passes true reason place y z e n = absurd (n e)
+passes false reason place y z e n = (refl, e)
 
 pub record Searched (b m : ℕ) (run : List ℕ) (room : ℕ) (z : Answered ℕ) : Type 0 where
   pub passed : Passed b m run room
   pub good : length run ≤ first_bad_tone (2 ^ b) run
   pub by : cond (ltb (first_start b m run room) (starts run)) (Ok (first_start b m run room)) (Err (refused_at Reason.NotFound 0)) ≡ z
 
-searched : (b m : ℕ) (run : List ℕ) (room : ℕ) (z : Answered ℕ) → found_start b m run room ≡ z → ((number place : ℕ) → number < 13 → Err (refused_at number place) ≡ z → ⊥)
+searched : (b m : ℕ) (run : List ℕ) (room : ℕ) (z : Answered ℕ) → found_start b m run room ≡ z → ((reason : Reason) (place : ℕ) → number_of reason < 13 → Err (refused_at reason place) ≡ z → ⊥)
     → Searched b m run room z
-unfolding found_start
+unfolding found_start number_of
 searched b m run room z e n =
-    let p1 = passes _ 1 _ _ _ e (n 1 0 (lit≤ tt)) in
-    let p2 = passes _ 2 _ _ _ p1.1 (n 2 0 (lit≤ tt)) in
-    let p3 = passes _ 7 _ _ _ p2.1 (n 7 0 (lit≤ tt)) in
-    let p4 = passes _ 9 _ _ _ p3.1 (n 9 0 (lit≤ tt)) in
-    let p5 = passes _ 8 _ _ _ p4.1 (n 8 (first_bad_tone (2 ^ b) run) (lit≤ tt)) in
+    let p1 = passes _ Reason.Mode _ _ _ e (n Reason.Mode 0 (lit≤ tt)) in
+    let p2 = passes _ Reason.LeastLead _ _ _ p1.1 (n Reason.LeastLead 0 (lit≤ tt)) in
+    let p3 = passes _ Reason.ToneCount _ _ _ p2.1 (n Reason.ToneCount 0 (lit≤ tt)) in
+    let p4 = passes _ Reason.Room _ _ _ p3.1 (n Reason.Room 0 (lit≤ tt)) in
+    let p5 = passes _ Reason.Tone _ _ _ p4.1 (n Reason.Tone (first_bad_tone (2 ^ b) run) (lit≤ tt)) in
     record {
       passed = record {
         settings = record { mode = not-false _ p1.0; lead = not-false _ p2.0 };
@@ -100,10 +112,11 @@ searched b m run room z e n =
     }
 
 pub start_searched : (b m : ℕ) (run : List ℕ) (room start : ℕ) → found_start b m run room ≡ Ok start → Searched b m run room (Ok start)
-start_searched b m run room start e = searched b m run room (Ok start) e (λ number place h f. let z : ◌≡◌ {A = ℕ} 0 1 = cc in omega arith)
+start_searched b m run room start e = searched b m run room (Ok start) e (λ reason place h f. absurd cc)
 
 pub none_searched : (b m : ℕ) (run : List ℕ) (room : ℕ) → found_start b m run room ≡ Err (refused_at Reason.NotFound 0) → Searched b m run room (Err (refused_at Reason.NotFound 0))
-none_searched b m run room e = searched b m run room (Err (refused_at Reason.NotFound 0)) e (λ number place h f. let z : number ≡ 13 = ap number_of f in omega arith)
+unfolding number_of
+none_searched b m run room e = searched b m run room (Err (refused_at Reason.NotFound 0)) e (λ reason place h f. let z : number_of reason ≡ 13 = ap answer_number f in omega arith)
 
 -- ---- a start that is told leaves 64 tones
 

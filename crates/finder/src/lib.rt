@@ -11,13 +11,6 @@ use decision::{Character, NONE};
 use refusal::{Reason, Refusal, checks};
 use search::LONGEST_RUN;
 
-// The start of the block found, or the refusal.
-#[derive(Clone, Copy)]
-pub enum Finding {
-    Start(usize),
-    Refused(Refusal),
-}
-
 // The answer, and the decisions on the characters of the block found; all are NONE on a refusal.
 #[derive(Clone, Copy)]
 pub struct BlockFound {
@@ -37,8 +30,10 @@ pub fn find_block<'a>(mode: u32, least_lead: u32, run: &'a [u16], codes: &mut [u
     ensures { Finds mode least_lead run.entry result.stretch codes.old result.block codes.new }
 {
     let block = find(mode, least_lead, run, codes);
-    let stretch = part_found(run, block);
-    Found { stretch, block }
+    Found {
+        stretch: part_found(run, block),
+        block,
+    }
 }
 
 // The same without the stretch.
@@ -65,27 +60,20 @@ pub fn find(mode: u32, least_lead: u32, run: &[u16], codes: &mut [u8]) -> BlockF
 fn locate(mode: u32, least_lead: u32, run: &[u16], room: usize) -> Result<usize, Refusal>
     ensures { result ≡ found_start mode least_lead run.now room }
 {
-    if !checks::is_mode(mode) {
-        return Err(Refusal::at(Reason::Mode, 0));
-    }
-    if !checks::is_lead(least_lead) {
-        return Err(Refusal::at(Reason::LeastLead, 0));
-    }
+    let b = checks::check_mode(mode)?;
+    checks::check_lead(least_lead)?;
     if !is_run(run.len()) {
         return Err(Refusal::at(Reason::ToneCount, 0));
     }
-    if room < mode as usize {
+    if room < b {
         return Err(Refusal::at(Reason::Room, 0));
     }
     let range = tone_range::check(checks::tone_count(mode), run);
-    if range.bad < run.len() {
-        return Err(Refusal::at(Reason::Tone, range.bad));
+    if let Some(bad) = range.bad {
+        return Err(Refusal::at(Reason::Tone, bad));
     }
     let start = search::first_accepted(mode, least_lead, run);
-    if start < run.len() - 63 {
-        return Ok(start);
-    }
-    Err(Refusal::at(Reason::NotFound, 0))
+    start.ok_or(Refusal::at(Reason::NotFound, 0))
 }
 
 fn is_run(count: usize) -> bool
@@ -99,8 +87,7 @@ fn part_found<'a>(run: &'a [u16], block: BlockFound) -> &'a [u16]
     requires { InRun block.answer run.now }
     ensures { PartOf run.entry result block.answer }
 {
-    let answer = block.answer;
-    match answer {
+    match block.answer {
         Ok(start) => &run[start..start + 64],
         Err(_) => &run[0..0],
     }

@@ -3,21 +3,21 @@ use native.Mathlib.Omega.{arith}
 use lib.ListN.{length}
 use Rattle.finder.proofs.FindCases.{found_fits, finds, refuses}
 use Rattle.finder.proofs.find.Goals as goal
-use Rattle.finder.proofs.find.Goals.{In-Start}
+use Rattle.finder.proofs.find.Goals.{In-Ok}
 
 -- the 64 tones lie within the run
-fits : (c : In-Start) → c.in-Ok.start + 64 ≤ length c.args.run.now
+fits : (c : In-Ok) → c.in-Ok.start + 64 ≤ length c.args.run.now
 fits c =
     found_fits _ _ c.args.run.now _ _ _ c.locate-answer.ensures c.in-Ok.is
 
 pub overflow_add-heard : goal.overflow_add-heard
-overflow_add-heard c = omega (arith, fits (goal.at.overflow_add-heard c).In-Start)
+overflow_add-heard c = omega (arith, fits (goal.at.overflow_add-heard c).In-Ok)
 
 pub offset_bounds-run-start : goal.offset_bounds-run-start
-offset_bounds-run-start c = omega (arith, fits (goal.at.offset_bounds-run-start c).In-Start)
+offset_bounds-run-start c = omega (arith, fits (goal.at.offset_bounds-run-start c).In-Ok)
 
 pub slice_bounds-heard-end : goal.slice_bounds-heard-end
-slice_bounds-heard-end c = omega (arith, fits (goal.at.slice_bounds-heard-end c).In-Start)
+slice_bounds-heard-end c = omega (arith, fits (goal.at.slice_bounds-heard-end c).In-Ok)
 
 pub returns-in-Ok : goal.returns-in-Ok
 returns-in-Ok c =
