@@ -10,6 +10,7 @@ use lib.ListN.{length, take, replicate}
 use Rattle.lists.specs.Lists.{tab, over}
 use Rattle.refusal.specs.Checks.{is_lead_at, is_mode}
 use Rattle.refusal.specs.declared.Refusal.{Refusal}
+use Rattle.refusal.proofs.Agreement.{Agrees, agrees_refused, agrees_done, agrees_unless}
 use Rattle.decision.specs.Decision.{none}
 use Rattle.decision.specs.declared.Character.{Character}
 use Rattle.tone_range.specs.Range.{first_bad_tone}
@@ -79,38 +80,21 @@ module _ (N b m : ℕ) (tones weights : List ℕ) (room : ℕ) where
 
 -- ---- the decisions before the answer
 
--- d is what is answered where l is decided: by characters, j
-record Agrees (l : Answered (List Character)) (d : BlockDecoded) (characters : List Character) (j : BlockDecoded) : Type 0 where
-  pub refused_as : (r : Refusal) → l ≡ Err r → d ≡ record { answer = Err r; characters = replicate 8 none }
-  pub passed_as : (found : List Character) → l ≡ Ok found → (found ≡ characters) × (d ≡ j)
-
-module _ {characters : List Character} {j : BlockDecoded} where
-  agrees_refused : (reason : Reason) (place : ℕ) → Agrees (Err (refused_at reason place)) (refused reason place) characters j
-  unfolding refused
-  agrees_refused reason place = record {
-    refused_as = λ r e. let same : refused_at reason place ≡ r = cc in ap (λ (x : Refusal). record { answer = Err x; characters = replicate 8 none }) same;
-    passed_as = λ found e. absurd cc;
-  }
-
-  agrees_done : Agrees (Ok characters) j characters j
-  agrees_done = record { refused_as = λ r e. absurd cc; passed_as = λ found e. (cc, refl) }
-
-  agrees_unless : (t : Bool) {l k : Answered (List Character)} {d e : BlockDecoded} → Agrees l d characters j → Agrees k e characters j
-      → Agrees (cond t l k) (cond t d e) characters j
-  agrees_unless true p q = p
-  agrees_unless false p q = q
+-- what is answered where a check refuses
+abbrev told : Refusal → BlockDecoded
+told r = record { answer = Err r; characters = replicate 8 none }
 
 module _ (N b m : ℕ) (tones weights : List ℕ) (room : ℕ) where
-  agrees : Agrees (listened N b m tones weights room) (heard_block N b m tones weights room) (padded (weighted_of b tones weights)) (judged b m (weighted_of b tones weights))
-  unfolding listened heard_block
+  agrees : Agrees told (padded (weighted_of b tones weights)) (judged b m (weighted_of b tones weights)) (listened N b m tones weights room) (heard_block N b m tones weights room)
+  unfolding listened heard_block refused
   agrees =
-      agrees_unless _ (agrees_refused Reason.Mode 0)
-      (agrees_unless _ (agrees_refused Reason.LeastLead 0)
-      (agrees_unless (not (eqb (length tones) 64)) (agrees_refused Reason.ToneCount 0)
-      (agrees_unless (not (eqb (length weights) 64)) (agrees_refused Reason.ToneCount 0)
-      (agrees_unless (ltb room b) (agrees_refused Reason.Room 0)
-      (agrees_unless (ltb (first_bad_tone (2 ^ b) tones) 64) (agrees_refused Reason.Tone (first_bad_tone (2 ^ b) tones))
-      (agrees_unless (ltb (first_bad_weight N weights) 64) (agrees_refused Reason.Weight (first_bad_weight N weights)) agrees_done))))))
+      agrees_unless (not (is_mode b)) (agrees_refused (refused_at Reason.Mode 0))
+      (agrees_unless (not (is_lead_at N m)) (agrees_refused (refused_at Reason.LeastLead 0))
+      (agrees_unless (not (eqb (length tones) 64)) (agrees_refused (refused_at Reason.ToneCount 0))
+      (agrees_unless (not (eqb (length weights) 64)) (agrees_refused (refused_at Reason.ToneCount 0))
+      (agrees_unless (ltb room b) (agrees_refused (refused_at Reason.Room 0))
+      (agrees_unless (ltb (first_bad_tone (2 ^ b) tones) 64) (agrees_refused (refused_at Reason.Tone (first_bad_tone (2 ^ b) tones)))
+      (agrees_unless (ltb (first_bad_weight N weights) 64) (agrees_refused (refused_at Reason.Weight (first_bad_weight N weights))) agrees_done))))))
 
   -- what is left to check where the first checks are passed
   module _ (p : Passed N b m (length tones) (length weights) room) where
