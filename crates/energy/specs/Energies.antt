@@ -26,8 +26,8 @@ squared_weight tones weights t = cond (eqb (num tones t) missing_mark) 0 (num we
 unfoldable pub total_of : List ℕ → List ℕ → ℕ
 total_of tones weights = 64 * total 64 (squared_weight tones weights)
 
-unfoldable pub refused : ℕ → ℕ → Energies
-refused number place = record { answer = Err (refused_at number place); sums = replicate 8 0 }
+unfoldable pub refused : Reason → ℕ → Energies
+refused reason place = record { answer = Err (refused_at reason place); sums = replicate 8 0 }
 
 -- the energies of b characters, and 0 after them
 unfoldable pub summed : ℕ → List ℕ → List ℕ → Energies

@@ -1,28 +1,21 @@
 // The energy of a block's characters, a check that needs no text: document 02, order 13.
 #![tactic(auto)]
 
-ghost use Rattle.std.specs.Prelude.{◌≡◌, ◌⊎◌, ℕ, ◌*◌, ◌<◌, ◌≤◌, length};
+ghost use Rattle.std.specs.Prelude.{◌≡◌, ◌⊎◌, ℕ, ◌*◌, ◌<◌, ◌≤◌};
 ghost use Rattle.lists.specs.Lists.{tab, num};
 ghost use Rattle.lists.specs.Sums.{total};
 ghost use Rattle.chain.specs.Chain.{missing_mark};
 ghost use Rattle.chain.specs.Tables.{symbol_of};
 ghost use Rattle.tone_range.specs.Range.{HasTones};
 ghost use Rattle.block_decoder.specs.Internal.{seen_symbol};
-ghost use Rattle.energy.specs.Internal.{heard_of};
-ghost use Rattle.energy.specs.Energies.{refused, heard_energies, block_energies, weighted_energies};
+ghost use Rattle.energy.specs.Internal.{heard_of, listened};
+ghost use Rattle.energy.specs.Energies.{heard_energies, block_energies, weighted_energies};
 
 use block_decoder::{GREATEST_WEIGHT, PLAIN_WEIGHT};
 use chain::{MISSING, gray, interleaver};
 use refusal::{Reason, Refusal, checks};
 
-// What each of the sums equals, or the refusal.
-#[derive(Clone, Copy)]
-pub enum Totalled {
-    Total(u32),
-    Refused(Refusal),
-}
-
-// The answer, and for each of the mode's characters the sum of its 64 squared correlations; the rest of the eight are 0, and all on a refusal.
+// What each of the sums equals, or the refusal; and for each of the mode's characters the sum of its 64 squared correlations; the rest of the eight are 0, and all on a refusal.
 #[derive(Clone, Copy)]
 pub struct Energies {
     pub answer: Result<u32, Refusal>,
@@ -55,40 +48,43 @@ fn of_heard(greatest: u8, mode: u32, tones: &[u16], weights: &[u8]) -> Energies
     requires { greatest ≤ 15 }
     ensures { result ≡ heard_energies greatest mode tones.now weights.now }
 {
-    if !checks::is_mode(mode) {
-        return refused(Reason::Mode, 0);
-    }
-    if tones.len() != 64 {
-        return refused(Reason::ToneCount, 0);
-    }
-    if weights.len() != 64 {
-        return refused(Reason::ToneCount, 0);
-    }
-    let range = tone_range::check(checks::tone_count(mode), tones);
-    if range.bad < 64 {
-        return refused(Reason::Tone, range.bad);
-    }
-    let bad_weight = weight_range::first_bad_weight(greatest, weights);
-    if bad_weight < 64 {
-        return refused(Reason::Weight, bad_weight);
-    }
-    let heard = hear(tones, weights);
-    let symbols = heard.symbols;
-    let counting = heard.weights;
-    let values = interleaver::values(mode);
-    Energies {
-        answer: Ok(total(&counting)),
-        sums: characters::energies(mode, &values, &symbols, &counting),
+    match listen(greatest, mode, tones, weights) {
+        Ok(heard) => {
+            let symbols = heard.symbols;
+            let weights = heard.weights;
+            let values = interleaver::values(mode);
+            Energies {
+                answer: Ok(total(&weights)),
+                sums: characters::energies(mode, &values, &symbols, &weights),
+            }
+        }
+        Err(refusal) => Energies {
+            answer: Err(refusal),
+            sums: [0; 8],
+        },
     }
 }
 
-fn refused(number: u8, place: usize) -> Energies
-    ensures { result ≡ refused number place }
+// What is heard of the tones, or the refusal.
+fn listen(greatest: u8, mode: u32, tones: &[u16], weights: &[u8]) -> Result<Heard, Refusal>
+    requires { greatest ≤ 15 }
+    ensures { result ≡ listened greatest mode tones.now weights.now }
 {
-    Energies {
-        answer: Err(Refusal::at(number, place)),
-        sums: [0; 8],
+    checks::check_mode(mode)?;
+    let Some(tones) = tones.as_array::<64>() else {
+        return Err(Refusal::at(Reason::ToneCount, 0));
+    };
+    let Some(weights) = weights.as_array::<64>() else {
+        return Err(Refusal::at(Reason::ToneCount, 0));
+    };
+    let range = tone_range::check(checks::tone_count(mode), tones);
+    if let Some(bad) = range.bad {
+        return Err(Refusal::at(Reason::Tone, bad));
     }
+    if let Some(bad) = weight_range::first_bad_weight(greatest, weights) {
+        return Err(Refusal::at(Reason::Weight, bad));
+    }
+    Ok(hear(tones, weights))
 }
 
 fn symbol(table: &[u8; 256], tone: u16) -> u8
@@ -103,19 +99,17 @@ fn symbol(table: &[u8; 256], tone: u16) -> u8
 }
 
 // What is heard of 64 tones: the symbol of each and the weight that it counts with, both 0 for a missing one.
-fn hear(tones: &[u16], weights: &[u8]) -> Heard
-    requires { HasTones 256 tones.now × (length weights.now ≡ 64) }
+fn hear(tones: &[u16; 64], weights: &[u8; 64]) -> Heard
+    requires { HasTones 256 tones.now }
     ensures { result ≡ heard_of tones.now weights.now }
 {
     let table = gray::symbols();
     let mut symbols = [0u8; 64];
     let mut heard = [0u8; 64];
-    let mut t: usize = 0;
-    while t < 64 {
+    for t in 0..64 {
         let tone = tones[t];
         symbols[t] = symbol(&table, tone);
         heard[t] = block_decoder::heard_weight(tone, weights[t]);
-        t += 1;
     }
     Heard {
         symbols,
@@ -126,7 +120,7 @@ fn hear(tones: &[u16], weights: &[u8]) -> Heard
 fn squared(weight: u8) -> u32
     ensures { result ≡ weight * weight }
 {
-    let weight = weight as u32;
+    let weight = u32::from(weight);
     weight * weight
 }
 
@@ -136,10 +130,8 @@ fn total(weights: &[u8; 64]) -> u32
     ensures { result ≡ 64 * total 64 (λ t. num weights.now t * num weights.now t) }
 {
     let mut sum: u32 = 0;
-    let mut t: usize = 0;
-    while t < 64 {
-        sum += squared(weights[t]);
-        t += 1;
+    for &weight in weights {
+        sum += squared(weight);
     }
     64 * sum
 }

@@ -1,7 +1,14 @@
--- An answer that is told by a record: where a check refuses, and where all are passed.
+-- What an answer tells of the check before it; and an answer that is told by a record.
 use Rattle.std.proofs.Common.{◌≡◌, refl, ap, Bool, true, false, cond, Ok, Err}
 use Rattle.refusal.specs.Refused.{Answered}
 use Rattle.refusal.specs.declared.Refusal.{Refusal}
+
+-- what is answered after a check is answered where it is passed
+pub passes : {A : Type 0} (t : Bool) (r : Refusal) (l : Answered A) (x : A) → cond t (Err r) l ≡ Ok x → (t ≡ false) × (l ≡ Ok x)
+passes true r l x e = absurd cc
+passes false r l x e = (refl, e)
+
+-- ---- told by a record: where a check refuses, and where all are passed
 
 module _ {A D : Type 0} (told : Refusal → D) (x : A) (done : D) where
   -- d is what is told of l: the refusal, or done for x
