@@ -16,25 +16,17 @@ pub loop-at-init : goal.loop-at-init
 unfolding again tab
 loop-at-init c = record { whole = zero-mod _; values = refl }
 
--- the row one time more
-written : (c : After-copy_from_slice) → take (c.loop-at.at + c.args.step) (put_mid c.loop-at.at (c.loop-at.at + 8 - c.loop-at.at) c.loop-at.values c.copy_from_slice.new.self) ≡ again c.args.step c.args.row (c.loop-at.at + c.args.step)
-written c =
-    let l = c.loop-at in
-    let a = c.args in
-    rw c.copy_from_slice.ensures.after (again_written a.step a.row l.at l.values _ l.invariant.whole (search rules) (omega arith) l.invariant.values)
-
 pub loop-at-preserved : goal.loop-at-preserved
 loop-at-preserved c =
-    let l = c.loop-at in record { whole = add-mod_right l.at c.args.step ∙ l.invariant.whole; values = written (goal.at.loop-at-preserved c).After-copy_from_slice }
+    let l = c.loop-at in
+    let a = c.args in record {
+      whole = add-mod_right l.at a.step ∙ l.invariant.whole;
+      values =
+          rw c.copy_from_slice.ensures.after
+          (again_written a.step a.row l.at l.values _ l.invariant.whole (search rules) (omega arith) l.invariant.values);
+    }
 
 pub returns : goal.returns
 returns c =
     let l = c.loop-at in
     sym (take-take 72 l.at l.values c.loop-at-test.false) ∙ ap (take 72) l.invariant.values ∙ again_cut _ _ 72 l.at c.loop-at-test.false
-
--- the last row
-pub returns-2 : goal.returns-2
-returns-2 c =
-    let next = c.loop-at.at + c.args.step in
-    let past : 72 ≤ next = omega arith in
-    sym (take-take 72 next _ past) ∙ ap (take 72) (written (goal.at.returns-2 c).After-copy_from_slice) ∙ again_cut _ _ 72 next past
