@@ -1,8 +1,8 @@
 -- The values of the places round a symbol: the first eight, how all come of those, and the sum of a symbol's.
-use mathlib.Core.Path.{◌≡◌, refl, ◌∙◌, ap}
+use mathlib.Core.Path.{◌≡◌, ◌∙◌, ap}
 use mathlib.Core.Bool.{Bool, true, false, cond}
 use mathlib.Core.List.{List, []}
-use Prim.Native.Nat.{ℕ, zero, suc, ◌+◌, ◌-◌, ◌/◌, ◌<◌, ◌≤◌, ◌%◌, ◌^◌}
+use Prim.Native.Nat.{ℕ, suc, ◌+◌, ◌-◌, ◌*◌, ◌/◌, ◌<◌, ◌≤◌, ◌%◌, ◌^◌}
 use native.Mathlib.Nat.{div-add-mod', mul-mod_left, mod-lt, mod-mod_of_dvd, dvd_of_mod-eq-zero}
 use native.Mathlib.Omega.{arith}
 use lib.ListN.{get_or, replicate}
