@@ -55,7 +55,8 @@ fn read_input(rt: &impl Print, input: &mut impl Read) -> io::Result<()> {
     read_lines(rt, &buffer[..count])
 }
 
-// Fills the buffer as far as the input goes: how many bytes it has then.
+// Fills the buffer as far as the input goes: how many bytes it has then. A read may give fewer bytes than there is room for, so it goes on by
+// as many as came.
 fn read_front(input: &mut impl Read, buffer: &mut [u8; 4096]) -> io::Result<usize>
     ensures { IfOk result (λ count. count ≤ 4096) }
 {
