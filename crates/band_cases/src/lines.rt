@@ -2,7 +2,7 @@
 // as the bit pattern of the f64, which tells it apart from every other; a measurement and its distance as the pattern alone.
 use band::Band;
 use refusal::Refusal;
-use std::io;
+use std::{io, num};
 
 fn refused(rt: &impl Print, refusal: Refusal) -> io::Result<()> {
     let Refusal {
@@ -17,35 +17,23 @@ fn settings(rt: &impl Print, mode: u32, width: u32, centre: u32) -> io::Result<(
     print!(rt; "mode {mode} width {width} centre {centre}")
 }
 
-// Its whole part, or 0 if that is no u64.
-fn whole_part(x: f64) -> u64 {
-    if x > -1.0 {
-        if x < 18446744073709551616.0 {
-            return std::num::truncating_f64_to_u64(x);
-        }
-    }
-    0
-}
-
 fn pattern(rt: &impl Print, x: f64) -> io::Result<()> {
-    if x == x {
-        let bits = f64::to_bits(x);
-        print!(rt; "{bits:016x}")
-    } else {
+    if x.is_nan() {
         print!(rt; "NaN")
+    } else {
+        print!(rt; "{:016x}", x.to_bits())
     }
 }
 
 fn hertz(rt: &impl Print, name: &str, x: f64) -> io::Result<()> {
-    let n = whole_part(x * 512.0);
+    let n = num::saturating_f64_to_u64(x * 512.0);
     print!(rt; "{name}{n}/512 ")?;
     pattern(rt, x)
 }
 
 pub fn band(rt: &impl Print, mode: u32, width: u32, centre: u32) -> io::Result<()> {
     settings(rt, mode, width, centre)?;
-    let planned = Band::new(mode, width, centre);
-    match planned {
+    match Band::new(mode, width, centre) {
         Ok(band) => {
             hertz(rt, ": edge ", band.edge)?;
             hertz(rt, " spacing ", band.spacing)?;
@@ -58,8 +46,7 @@ pub fn band(rt: &impl Print, mode: u32, width: u32, centre: u32) -> io::Result<(
 pub fn frequency(rt: &impl Print, mode: u32, width: u32, centre: u32, tone: u16) -> io::Result<()> {
     settings(rt, mode, width, centre)?;
     print!(rt; " tone {tone}")?;
-    let tuned = band::frequency(mode, width, centre, tone);
-    match tuned {
+    match band::frequency(mode, width, centre, tone) {
         Ok(x) => hertz(rt, ": ", x)?,
         Err(refusal) => refused(rt, refusal)?,
     }
@@ -70,8 +57,7 @@ pub fn locate(rt: &impl Print, mode: u32, width: u32, centre: u32, hertz: f64) -
     settings(rt, mode, width, centre)?;
     print!(rt; " measured ")?;
     pattern(rt, hertz)?;
-    let located = band::locate(mode, width, centre, hertz);
-    match located {
+    match band::locate(mode, width, centre, hertz) {
         Located::Heard(tone, off) => {
             print!(rt; ": tone {tone} off ")?;
             pattern(rt, off)?;

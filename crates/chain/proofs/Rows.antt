@@ -1,11 +1,11 @@
 -- A row set out again and again: written one time more over a list, and cut off.
-use mathlib.Core.Path.{◌≡◌, sym, ◌∙◌, ap, ap₂}
+use mathlib.Core.Path.{◌≡◌, sym, ◌∙◌, ap}
 use mathlib.Core.List.{List, ◌++◌}
 use Prim.Native.Nat.{ℕ, ◌+◌, ◌-◌, ◌<◌, ◌≤◌, ◌%◌}
 use native.Mathlib.Nat.{mod-add-mod, mod-eq_of_lt}
 use native.Mathlib.Omega.{arith}
 use lib.ListN.{length, take}
-use lib.Seq.{take_all, take_at, take-take, take-append-add, paste, take-paste}
+use lib.Seq.{take_at, take-append-add, take-append-le}
 use Rattle.lists.specs.Lists.{tab, num}
 use Rattle.lists.proofs.Tables.{tab_length, tab_add, tab_ext, tab_take}
 use Rattle.chain.specs.Internal.{again}
@@ -27,15 +27,16 @@ module _ (step : ℕ) (row : List ℕ) where
           let e : q ≡ at % step + q = omega arith in
           ap (num row) (sym (mod-eq_of_lt l) ∙ ap (λ (n : ℕ). n % step) e ∙ mod-add-mod at step q)
 
-  -- the same as it is written: all eight of the row, over a list from there on
-  pub again_written : (at : ℕ) (values : List ℕ) → at % step ≡ 0 → at + 8 ≤ length values → length row ≡ 8 → step ≤ 8
-      → take at values ≡ again step row at → take (at + step) (paste values at row 8) ≡ again step row (at + step)
-  again_written at values whole room size inside same =
-      sym (take-take (at + step) (at + 8) (paste values at row 8) (omega arith))
-      ∙ ap (take (at + step)) (take-paste values at row 8 (omega arith) (omega arith) ∙ ap₂ ◌++◌ same (take_all 8 row (omega arith)))
-      ∙ ap (λ (n : ℕ). take (n + step) (again step row at ++ row)) (sym (again_length at))
-      ∙ take-append-add (again step row at) row step
-      ∙ again_more at whole (omega arith)
+  -- the same as it is written: all eight of the row, before what follows them
+  pub again_written : (at : ℕ) (values rest : List ℕ) → at % step ≡ 0 → length row ≡ 8 → step ≤ 8
+      → take at values ≡ again step row at → take (at + step) (take at values ++ (row ++ rest)) ≡ again step row (at + step)
+  again_written at values rest whole size inside same =
+      let within : step ≤ length row = omega arith in
+      rw same
+      (ap (λ (n : ℕ). take (n + step) (again step row at ++ (row ++ rest))) (sym (again_length at))
+      ∙ take-append-add (again step row at) (row ++ rest) step
+      ∙ ap (λ (x : List ℕ). again step row at ++ x) (take-append-le step row rest within)
+      ∙ again_more at whole within)
 
   pub again_cut : (n at : ℕ) → n ≤ at → take n (again step row at) ≡ again step row n
   unfolding again

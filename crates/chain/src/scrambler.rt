@@ -12,7 +12,8 @@ const KEYS: [u8; 64] = [
     117, 75,
 ];
 
-// The key bits of all characters at each place.
+// The key bits of all characters at each place. A function and no public constant: its clause tells each caller what the table is, with no
+// lemma to name.
 pub fn keys() -> [u8; 64]
     ensures { result ≡ tab keys_at 64 }
 {

@@ -9,13 +9,6 @@ use stages::{Listing, OUTPUT, PIECE, Progress};
 use std::io::{self, Read, Write};
 use std::str;
 
-// The listing so far, and whether there is more to read.
-#[derive(Clone, Copy)]
-struct Told {
-    listing: Listing,
-    goes_on: bool,
-}
-
 // What failed and why go to standard error: the system's words, without the number that follows them.
 fn fail(rt: &impl Eprint, what: &str, error: io::Error) -> io::Result<()> {
     let mut text = [0u8; 128];
@@ -31,30 +24,28 @@ fn fail(rt: &impl Eprint, what: &str, error: io::Error) -> io::Result<()> {
 }
 
 // After a read or a write that failed nothing more is told.
-fn stop(rt: &impl Eprint, what: &str, error: io::Error, listing: Listing) -> Told {
+fn stop(rt: &impl Eprint, what: &str, error: io::Error) -> Option<Listing> {
     fail(rt, what, error).unwrap_or(());
-    Told {
-        listing,
-        goes_on: false,
-    }
+    None
 }
 
 // Writes the text of a piece at once, so that a live feed is listed as it comes. After a write that failed nothing may follow.
-fn tell(rt: &(impl Print + Eprint), progress: Progress, out: &[u8]) -> Told
+// The answer is the listing so far, or none if nothing more is to be read.
+fn tell(rt: &(impl Print + Eprint), progress: Progress, out: &[u8]) -> Option<Listing>
     requires { progress.written ≤ length out.now }
 {
-    let listing = progress.listing;
-    let end = progress.written;
-    if let Err(error) = rt.write_all(&out[..end]) {
-        return stop(rt, "write", error, listing);
+    let Progress { listing, written } = progress;
+    if let Err(error) = rt.write_all(&out[..written]) {
+        return stop(rt, "write", error);
     }
-    Told {
-        listing,
-        goes_on: !stages::is_stopped(listing),
+    if stages::is_stopped(listing) {
+        None
+    } else {
+        Some(listing)
     }
 }
 
-fn begin(rt: &(impl Print + Eprint), out: &mut [u8; OUTPUT]) -> Told {
+fn begin(rt: &(impl Print + Eprint), out: &mut [u8; OUTPUT]) -> Option<Listing> {
     let progress = stages::begin(out);
     tell(rt, progress, out)
 }
@@ -67,33 +58,25 @@ fn hear(
     piece: &mut [u8; PIECE],
     tones: &mut [u16; TONES],
     out: &mut [u8; OUTPUT],
-) -> Told {
+) -> Option<Listing> {
     match input.read(piece) {
         Ok(count) => {
             let progress = listing::hear(listing, piece, count, tones, out);
             tell(rt, progress, out)
         }
-        Err(error) => stop(rt, "read", error, listing),
+        Err(error) => stop(rt, "read", error),
     }
 }
 
-// A loop has to end, and nothing says that the input does: it counts its turns down from a number that no run uses up.
+// A loop has to end, and nothing says that the input does: its turns are as many as no run uses up.
 fn main(rt: HostRuntime) {
     let mut input = rt.stdin();
     let mut piece = [0u8; PIECE];
     let mut tones = [0u16; TONES];
     let mut out = [0u8; OUTPUT];
     let mut told = begin(&rt, &mut out);
-    let mut turns = u64::MAX;
-    while turns > 0 && told.goes_on {
-        told = hear(
-            &rt,
-            &mut input,
-            told.listing,
-            &mut piece,
-            &mut tones,
-            &mut out,
-        );
-        turns -= 1;
+    for _ in 0..u64::MAX {
+        let Some(listing) = told else { break };
+        told = hear(&rt, &mut input, listing, &mut piece, &mut tones, &mut out);
     }
 }

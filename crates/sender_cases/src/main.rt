@@ -17,44 +17,35 @@ fn main(rt: HostRuntime) -> io::Result<()> {
 }
 
 // Each depot in turn hands in its blocks with these numbers: a line for each depot.
-fn every_depot(rt: &impl Print, sender: Sender, first: u32, end: u32) -> io::Result<Sender> {
-    let mut s = sender;
-    let mut depot: u32 = 0;
-    while depot < 30 {
-        s = handed_in(rt, s, depot, first, end)?;
-        depot += 1;
+fn every_depot(rt: &impl Print, mut sender: Sender, first: u32, end: u32) -> io::Result<Sender> {
+    for depot in 0..30 {
+        sender = handed_in(rt, sender, depot, first, end)?;
     }
-    lines::counts(rt, &s.bytes)?;
-    Ok(s)
+    lines::counts(rt, &sender.bytes)?;
+    Ok(sender)
 }
 
 // A depot hands in its blocks with the numbers from first up to end.
 fn handed_in(
     rt: &impl Print,
-    sender: Sender,
+    mut sender: Sender,
     depot: u32,
     first: u32,
     end: u32,
 ) -> io::Result<Sender> {
-    let mut s = sender;
-    let mut number = first;
     lines::depot(rt, depot)?;
-    while number < end {
-        s = lines::hand_in(rt, s, depot, number)?;
-        number += 1;
+    for number in first..end {
+        sender = lines::hand_in(rt, sender, depot, number)?;
     }
     lines::end(rt)?;
-    Ok(s)
+    Ok(sender)
 }
 
 // So many sends, a line for each.
-fn sent(rt: &impl Print, sender: Sender, sends: u32) -> io::Result<Sender> {
-    let mut s = sender;
-    let mut k: u32 = 0;
-    while k < sends {
-        s = lines::send(rt, s)?;
-        k += 1;
+fn sent(rt: &impl Print, mut sender: Sender, sends: u32) -> io::Result<Sender> {
+    for _ in 0..sends {
+        sender = lines::send(rt, sender)?;
     }
-    lines::counts(rt, &s.bytes)?;
-    Ok(s)
+    lines::counts(rt, &sender.bytes)?;
+    Ok(sender)
 }

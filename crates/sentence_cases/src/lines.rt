@@ -1,6 +1,4 @@
 // A call and its line: what it is given, and the answer.
-ghost use Rattle.std.specs.Prelude.{◌≤◌};
-
 use refusal::Refusal;
 use std::io;
 
@@ -23,20 +21,10 @@ fn asked(rt: &impl Print, number: u32, place: usize, lead: u32) -> io::Result<()
     print!(rt; "write {number} place {place} lead {lead}")
 }
 
-fn at_most(n: usize, most: usize) -> usize
-    ensures { result ≤ most }
-{
-    if n < most {
-        return n;
-    }
-    most
-}
-
 fn told(rt: &impl Print, answer: Result<usize, Refusal>, out: &[u8]) -> io::Result<()> {
     match answer {
         Ok(n) => {
-            let end = at_most(n, out.len());
-            rt.write_all(&out[..end])?;
+            rt.write_all(&out[..n.min(out.len())])?;
         }
         Err(refusal) => refused(rt, refusal)?,
     }
@@ -53,8 +41,7 @@ pub fn write(rt: &impl Print, number: u32, place: usize, lead: u32) -> io::Resul
 
 pub fn write_short(rt: &impl Print, number: u32, place: usize, lead: u32) -> io::Result<()> {
     asked(rt, number, place, lead)?;
-    let short = SHORT;
-    print!(rt; " into {short} bytes: ")?;
+    print!(rt; " into {SHORT} bytes: ")?;
     let mut out = [b'.'; SHORT];
     let answer = sentence::write_sentence(number, place, lead, &mut out);
     told(rt, answer, &out)
@@ -64,8 +51,7 @@ pub fn read(rt: &impl Print, bytes: &[u8]) -> io::Result<()> {
     print!(rt; "read '")?;
     rt.write_all(bytes)?;
     print!(rt; "': ")?;
-    let answer = sentence::read_sentence(bytes);
-    match answer {
+    match sentence::read_sentence(bytes) {
         Ok(refusal) => {
             let Refusal {
                 number,

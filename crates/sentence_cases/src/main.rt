@@ -18,13 +18,10 @@ fn main(rt: HostRuntime) -> io::Result<()> {
 
 // From 0 to one more than document 02 ever names.
 fn every_number(rt: &impl Print) -> io::Result<()> {
-    let mut number: u32 = 0;
-    while number < 25 {
-        lines::write(rt, number, 0, 0)?;
-        lines::write(rt, number, 7, 0)?;
-        lines::write(rt, number, 1024, 0)?;
-        lines::write(rt, number, 65535, 0)?;
-        number += 1;
+    for number in 0..25 {
+        for place in [0, 7, 1024, 65535] {
+            lines::write(rt, number, place, 0)?;
+        }
     }
     Ok(())
 }
@@ -58,7 +55,8 @@ fn read_input(rt: &impl Print, input: &mut impl Read) -> io::Result<()> {
     read_lines(rt, &buffer[..count])
 }
 
-// Fills the buffer as far as the input goes: how many bytes it has then.
+// Fills the buffer as far as the input goes: how many bytes it has then. A read may give fewer bytes than there is room for, so it goes on by
+// as many as came.
 fn read_front(input: &mut impl Read, buffer: &mut [u8; 4096]) -> io::Result<usize>
     ensures { IfOk result (λ count. count ≤ 4096) }
 {
@@ -74,14 +72,10 @@ fn read_front(input: &mut impl Read, buffer: &mut [u8; 4096]) -> io::Result<usiz
 }
 
 fn read_lines(rt: &impl Print, bytes: &[u8]) -> io::Result<()> {
-    let mut from: usize = 0;
-    let mut i: usize = 0;
-    while i < bytes.len() {
-        if bytes[i] == b'\n' {
-            lines::read(rt, &bytes[from..i])?;
-            from = i + 1;
+    for line in bytes.split_inclusive(|byte| *byte == b'\n') {
+        if let Some(sentence) = line.strip_suffix(b"\n") {
+            lines::read(rt, sentence)?;
         }
-        i += 1;
     }
     Ok(())
 }

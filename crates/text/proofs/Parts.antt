@@ -16,9 +16,6 @@ part_rest spare rest text from size h k e =
     rw (e, drop_at (take from spare) rest from (length-take-le from spare h)) (take_all (size - from) rest (omega arith))
 
 module _ (spare text : List ℕ) (n r count : ℕ) (place : r + length (decimal n) ≡ count) (within : count ≤ length spare) where
-  pub decimal_part : text ≡ take r spare ++ (decimal n ++ []) → take (count - r) (drop r text) ≡ decimal n
-  decimal_part e = part_rest spare (decimal n) text r count (omega arith) place (rw append-nil at e)
-
   pub field_part : (end : ℕ) → text ≡ take r spare ++ (decimal n ++ (end ∷ [])) → take (suc count - r) (drop r text) ≡ field n end
   unfolding field
   field_part end = part_rest spare (decimal n ++ (end ∷ [])) text r (suc count) (omega arith) (omega (arith, length-append (decimal n) (end ∷ [])))

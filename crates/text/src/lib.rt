@@ -24,12 +24,8 @@ pub fn put_text(text: &[u8], out: &mut [u8]) -> usize
     if out.len() < text.len() {
         return 0;
     }
-    let mut i: usize = 0;
-    while i < text.len() {
-        out[i] = text[i];
-        i += 1;
-    }
-    i
+    out[..text.len()].copy_from_slice(text);
+    text.len()
 }
 
 // The digits of a number, from the last to the first, put before a place of a text. The answer is where they begin.
@@ -38,39 +34,21 @@ fn put_before(n: u64, place: usize, text: &mut [u8]) -> usize
     ensures answer { result + length (decimal n) ≡ place }
     ensures output { text.new ≡ take result text.old ++ (decimal n ++ drop place text.old) }
 {
-    let mut from = place;
+    let from = place - decimal_length(n);
     let mut left = n;
-    while 10 <= left {
-        from -= 1;
-        text[from] = b'0' + (left % 10) as u8;
-        left = left / 10;
+    for at in (from..place).rev() {
+        text[at] = b'0' + (left % 10) as u8;
+        left /= 10;
     }
-    from -= 1;
-    text[from] = b'0' + left as u8;
     from
-}
-
-fn magnitude(n: i32) -> u64
-    ensures { result ≡ nat_abs n }
-{
-    if n < 0 {
-        // Widened first: i32 does not hold the magnitude of its least number.
-        return (-(n as i64)) as u64;
-    }
-    n as u64
 }
 
 // The count of a number's digits.
 pub fn decimal_length(n: u64) -> usize
     ensures { result ≡ length (decimal n) }
 {
-    let mut count: usize = 1;
-    let mut rest = n;
-    while 10 <= rest {
-        rest = rest / 10;
-        count += 1;
-    }
-    count
+    // 0 has one digit, as 1 has.
+    n.max(1).ilog10() as usize + 1
 }
 
 // A number in decimal, whole or not at all.
@@ -101,7 +79,7 @@ pub fn put_signed_field(n: i32, end: u8, out: &mut [u8]) -> usize
     // Each byte before the digits is a minus, and the text begins at the last of them if the number is negative.
     let mut text = [b'-'; DIGITS + 2];
     text[DIGITS + 1] = end;
-    let from = put_before(magnitude(n), DIGITS + 1, &mut text) - (n < 0) as usize;
+    let from = put_before(u64::from(n.unsigned_abs()), DIGITS + 1, &mut text) - usize::from(n < 0);
     put_text(&text[from..], out)
 }
 

@@ -1,15 +1,16 @@
--- Before each turn the text is as it was before place `from`, and what stands from there on follows the digits of what is left.
+-- Before each turn the text is as it was before place `at`, and there end the number's digits that are still to be put.
 use mathlib.Core.Path.{◌≡◌}
 use mathlib.Core.List.{◌++◌}
-use Prim.Native.Nat.{◌≤◌}
+use Prim.Native.Nat.{◌-◌, ◌≤◌}
 use lib.ListN.{length, take, drop}
-use Rattle.text.specs.Decimal.{decimal}
+use Rattle.text.specs.Decimal.{digits, decimal}
 use Rattle.text.proofs.put_before.Given as goal
 
-abbrev pub invariant-loop-left : goal.invariant-loop-left
-invariant-loop-left l =
-    (length l.text ≡ length l.initial.text) × (l.from ≤ length l.initial.text) × (length (decimal l.left) ≤ l.from) × (take l.from l.text ≡ take l.from l.initial.text)
-    × (decimal l.n ++ drop l.place l.initial.text ≡ decimal l.left ++ drop l.from l.text)
-
-abbrev pub decreases-loop-left : goal.decreases-loop-left
-decreases-loop-left l = l.left
+abbrev pub invariant-loop-at : goal.invariant-loop-at
+invariant-loop-at l = record {
+  from : l.from ≤ l.at;
+  room : length l.text ≡ length l.initial.text;
+  count : length (digits (l.at - l.from) l.left) ≡ l.at - l.from;
+  front : take l.at l.text ≡ take l.at l.initial.text;
+  made : decimal l.n ++ drop l.place l.initial.text ≡ digits (l.at - l.from) l.left ++ drop l.at l.text;
+}
