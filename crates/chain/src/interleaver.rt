@@ -42,7 +42,10 @@ fn step(b: usize) -> usize
     requires { (1 ≤ b) × (b ≤ 8) }
     ensures { WholeRounds b result }
 {
-    8 - 8 % b
+    if b == 3 {
+        return 6;
+    }
+    if b < 5 { 8 } else { b }
 }
 
 // Row after row, each over the tail of the one before: eight places at a time go faster than one.
