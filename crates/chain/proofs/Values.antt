@@ -1,9 +1,9 @@
 -- The values of the places round a symbol: the first eight, how all come of those, and the sum of a symbol's.
-use mathlib.Core.Path.{◌≡◌, ◌∙◌, ap}
+use mathlib.Core.Path.{◌≡◌, refl, ◌∙◌, ap}
 use mathlib.Core.Bool.{Bool, true, false, cond}
 use mathlib.Core.List.{List, []}
-use Prim.Native.Nat.{ℕ, suc, ◌+◌, ◌-◌, ◌*◌, ◌/◌, ◌<◌, ◌≤◌, ◌%◌, ◌^◌}
-use native.Mathlib.Nat.{div-add-mod', mul-mod_left, mod-lt, mod-mod_of_dvd, dvd_of_mod-eq-zero}
+use Prim.Native.Nat.{ℕ, zero, suc, ◌+◌, ◌-◌, ◌<◌, ◌≤◌, ◌%◌, ◌^◌}
+use native.Mathlib.Nat.{mod-lt, mod-mod_of_dvd, dvd_of_mod-eq-zero}
 use native.Mathlib.Omega.{arith}
 use lib.ListN.{get_or, replicate}
 use Rattle.lists.specs.Lists.{tab, num}
@@ -24,10 +24,13 @@ row_of_mode rows b e low high =
 
 -- ---- all of them
 
-pub eight_whole : (b : ℕ) → (8 - 8 % b) % b ≡ 0
-eight_whole b =
-    let whole : 8 - 8 % b ≡ 8 / b * b = omega (arith, div-add-mod' 8 b) in
-    rw whole (mul-mod_left (8 / b) b)
+pub eight_whole : (b : ℕ) → 1 ≤ b → b < 5 → (b ≡ 3 → ⊥) → 8 % b ≡ 0
+eight_whole zero low high other = absurd (omega arith)
+eight_whole (suc zero) low high other = refl
+eight_whole (suc (suc zero)) low high other = refl
+eight_whole (suc (suc (suc zero))) low high other = absurd (other refl)
+eight_whole (suc (suc (suc (suc zero)))) low high other = refl
+eight_whole (suc (suc (suc (suc (suc n))))) low high other = absurd (omega arith)
 
 pub values_again : (b n : ℕ) (row : List ℕ) → WholeRounds b n → row ≡ tab (place_value b) 8 → again n row 72 ≡ tab (place_value b) 72
 unfolding again place_value

@@ -22,6 +22,8 @@ use Rattle.tone_range.specs.Range.{first_bad_tone}
 use Rattle.weight_range.specs.Range.{first_bad_weight}
 use Rattle.block_decoder.specs.Decoding.{heard_symbol, symbols_of, count_of, count_in}
 use Rattle.block_decoder.proofs.Counts.{symbol_heard, count_missing, count_present}
+use Rattle.refusal.specs.Refused.{Answered}
+use Rattle.refusal.specs.declared.Reason.{Reason}
 use Rattle.energy.specs.Energies.{energy_at, squared_weight, total_of, refused, summed, heard_energies}
 use Rattle.energy.specs.declared.Energies.{Energies}
 use Rattle.energy_laws.specs.Laws.{Energy}
@@ -58,24 +60,24 @@ module _ (b : ℕ) (tones weights : List ℕ) (q : ℕ) where
 -- ---- the answers
 
 -- a total comes of the second of two answers, if the first is a refusal
-passes : (t : Bool) (number place n : ℕ) (e : Energies) → (cond t (refused number place) e).answer ≡ Ok n
-    → (cond t (refused number place) e ≡ e) × (e.answer ≡ Ok n)
+passes : (t : Bool) (reason : Reason) (place n : ℕ) (e : Energies) → (cond t (refused reason place) e).answer ≡ Ok n
+    → (cond t (refused reason place) e ≡ e) × (e.answer ≡ Ok n)
 unfolding refused
-passes true number place n e h = let z : ◌≡◌ {A = ℕ} 0 1 = cc in absurd (omega arith)
-passes false number place n e h = (refl, h)
+passes true reason place n e h = let z : ◌≡◌ {A = ℕ} 0 1 = cc in absurd (omega arith)
+passes false reason place n e h = (refl, h)
 
-same_total : {m n : ℕ} → Ok m ≡ Ok n → m ≡ n
+same_total : {m n : ℕ} → ◌≡◌ {A = Answered ℕ} (Ok m) (Ok n) → m ≡ n
 same_total e = cc
 
 module _ (N b : ℕ) (tones weights : List ℕ) (n : ℕ) where
   total_summed : (heard_energies N b tones weights).answer ≡ Ok n → (heard_energies N b tones weights ≡ summed b tones weights) × (total_of tones weights ≡ n)
   unfolding heard_energies summed
   total_summed e =
-      let p1 = passes (not (is_mode b)) 1 0 n _ e in
-      let p2 = passes (not (eqb (length tones) 64)) 7 0 n _ p1.1 in
-      let p3 = passes (not (eqb (length weights) 64)) 7 0 n _ p2.1 in
-      let p4 = passes (ltb (first_bad_tone (2 ^ b) tones) 64) 8 (first_bad_tone (2 ^ b) tones) n _ p3.1 in
-      let p5 = passes (ltb (first_bad_weight N weights) 64) 14 (first_bad_weight N weights) n _ p4.1 in
+      let p1 = passes (not (is_mode b)) Reason.Mode 0 n _ e in
+      let p2 = passes (not (eqb (length tones) 64)) Reason.ToneCount 0 n _ p1.1 in
+      let p3 = passes (not (eqb (length weights) 64)) Reason.ToneCount 0 n _ p2.1 in
+      let p4 = passes (ltb (first_bad_tone (2 ^ b) tones) 64) Reason.Tone (first_bad_tone (2 ^ b) tones) n _ p3.1 in
+      let p5 = passes (ltb (first_bad_weight N weights) 64) Reason.Weight (first_bad_weight N weights) n _ p4.1 in
       (p1.0 ∙ p2.0 ∙ p3.0 ∙ p4.0 ∙ p5.0, same_total p5.1)
 
   told : (heard_energies N b tones weights).answer ≡ Ok n → (q : ℕ) → q < b → num (heard_energies N b tones weights).sums q ≡ n
