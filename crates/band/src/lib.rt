@@ -43,7 +43,7 @@ impl Band {
         ensures { result ≡ hertz_in self tone }
     {
         let half = self.spacing / 2.0;
-        self.edge + half + self.spacing * (tone as f64)
+        self.edge + half + self.spacing * f64::from(tone)
     }
 
     // Where a tone's stretch begins, and the one of the tone below ends.
@@ -51,7 +51,7 @@ impl Band {
     fn tone_edge(self, tone: u16) -> f64
         ensures { result ≡ tone_edge_in self tone }
     {
-        self.edge + self.spacing * (tone as f64)
+        self.edge + self.spacing * f64::from(tone)
     }
 
     // From the lower edge up to, but without, the upper, where the stretch of one more tone would begin.
@@ -60,7 +60,7 @@ impl Band {
         ensures { result ≡ holds_in self (2 ^ (mode % 16)) hertz }
     {
         let upper = self.tone_edge(checks::tone_count(mode));
-        hertz >= self.edge && !(hertz >= upper)
+        hertz >= self.edge && hertz < upper
     }
 
     // The tone whose stretch holds a measurement in the band, by halving: one comparison for each bit of a tone, so 8 at most.
@@ -155,9 +155,9 @@ fn band_of(mode: u32, width: u32, centre: u32) -> Band
     requires { fault mode width centre 0 ≡ None }
     ensures { result ≡ band_of mode width centre }
 {
-    let centre_hz = centre as f64;
-    let width_hz = width as f64;
-    let tones = checks::tone_count(mode) as f64;
+    let centre_hz = f64::from(centre);
+    let width_hz = f64::from(width);
+    let tones = f64::from(checks::tone_count(mode));
     Band {
         edge: centre_hz - width_hz / 2.0,
         spacing: width_hz / tones,

@@ -29,18 +29,18 @@ is_finite c = sym (as_finite _) ∙ sym c.is_finite.ensures.value ∙ c.if-not-i
 pub band_of-band-requires : goal.band_of-band-requires
 band_of-band-requires c = right (goal.at.band_of-band-requires c).In_ok-check
 
-in_band_by : (c : After-holds) → let a = c.args in fault a.mode a.width a.centre 0 ≡ None → c.holds.result ≡ in_band a.width a.centre a.hertz
-in_band_by c e =
+in_band_by : (c : After-holds) → let a = c.args in fault a.mode a.width a.centre 0 ≡ None → finite a.hertz ≡ true → c.holds.result ≡ in_band a.width a.centre a.hertz
+in_band_by c e f =
     let a = c.args in
     c.holds.ensures
     ∙ ap (λ (band : Band). holds_in band (2 ^ (a.mode % 16)) a.hertz) c.band_of-band.ensures
-    ∙ held a.mode a.width a.centre a.hertz e
+    ∙ held a.mode a.width a.centre a.hertz e f
 
 pub returns-then-not-holds : goal.returns-then-not-holds
 returns-then-not-holds c =
     let at = goal.at.returns-then-not-holds c in
     let settings = right at.In_ok-check in
-    let outside = sym (in_band_by at.After-holds settings) ∙ c.if-not-holds.true in
+    let outside = sym (in_band_by at.After-holds settings (is_finite at.Else-not-is_finite)) ∙ c.if-not-holds.true in
     rw c.at-then-not-holds.ensures (located_outside _ _ _ _ settings (is_finite at.Else-not-is_finite) outside)
 
 pub owner-tone-requires-clause-mode_value : goal.owner-tone-requires-clause-mode_value
@@ -50,14 +50,14 @@ pub owner-tone-requires-clause-between : goal.owner-tone-requires-clause-between
 owner-tone-requires-clause-between c =
     let at = goal.at.owner-tone-requires-clause-between c in
     let settings = right at.In_ok-check in
-    rw c.band_of-band.ensures (from_first _ _ _ _ settings (sym (in_band_by at.After-holds settings) ∙ c.if-not-holds.false))
+    rw c.band_of-band.ensures (from_first _ _ _ _ settings (sym (in_band_by at.After-holds settings (is_finite at.Else-not-is_finite)) ∙ c.if-not-holds.false))
 
 pub returns : goal.returns
 unfolding heard_as
 returns c =
     let at = goal.at.returns c in
     let settings = right at.In_ok-check in
-    let inside = sym (in_band_by at.After-holds settings) ∙ c.if-not-holds.false in
+    let inside = sym (in_band_by at.After-holds settings (is_finite at.Else-not-is_finite)) ∙ c.if-not-holds.false in
     let owner = owner_found _ _ _ _ settings c.owner-tone.result (rw c.band_of-band.ensures at c.owner-tone.ensures) in
     let few = (owner_owns _ _ _ _ settings inside).0 in
     rw (c.hertz.ensures, c.band_of-band.ensures, owner, tone_hertz_exact _ _ _ settings _ few)
