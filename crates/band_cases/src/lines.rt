@@ -1,15 +1,16 @@
 // A call of an entry and its line: what it is given, and the answer. A frequency is told as its whole number of 1/512 Hz and
 // as the bit pattern of the f64, which tells it apart from every other; a measurement and its distance as the pattern alone.
-use band::Band;
-use refusal::Refusal;
+use band::{Band, Heard};
+use refusal::{Reason, Refusal};
 use std::io;
 
 fn refused(rt: &impl Print, refusal: Refusal) -> io::Result<()> {
     let Refusal {
-        number,
+        reason,
         place,
         lead,
     } = refusal;
+    let number = reason.number();
     print!(rt; ": refused {number} place {place} lead {lead}")
 }
 
@@ -19,20 +20,19 @@ fn settings(rt: &impl Print, mode: u32, width: u32, centre: u32) -> io::Result<(
 
 // Its whole part, or 0 if that is no u64.
 fn whole_part(x: f64) -> u64 {
-    if x > -1.0 {
-        if x < 18446744073709551616.0 {
-            return std::num::truncating_f64_to_u64(x);
-        }
+    if x > -1.0 && x < 18446744073709551616.0 {
+        std::num::truncating_f64_to_u64(x)
+    } else {
+        0
     }
-    0
 }
 
 fn pattern(rt: &impl Print, x: f64) -> io::Result<()> {
-    if x == x {
-        let bits = f64::to_bits(x);
-        print!(rt; "{bits:016x}")
-    } else {
+    if x.is_nan() {
         print!(rt; "NaN")
+    } else {
+        let bits = x.to_bits();
+        print!(rt; "{bits:016x}")
     }
 }
 
@@ -44,8 +44,7 @@ fn hertz(rt: &impl Print, name: &str, x: f64) -> io::Result<()> {
 
 pub fn band(rt: &impl Print, mode: u32, width: u32, centre: u32) -> io::Result<()> {
     settings(rt, mode, width, centre)?;
-    let planned = Band::new(mode, width, centre);
-    match planned {
+    match Band::new(mode, width, centre) {
         Ok(band) => {
             hertz(rt, ": edge ", band.edge)?;
             hertz(rt, " spacing ", band.spacing)?;
@@ -58,8 +57,7 @@ pub fn band(rt: &impl Print, mode: u32, width: u32, centre: u32) -> io::Result<(
 pub fn frequency(rt: &impl Print, mode: u32, width: u32, centre: u32, tone: u16) -> io::Result<()> {
     settings(rt, mode, width, centre)?;
     print!(rt; " tone {tone}")?;
-    let tuned = band::frequency(mode, width, centre, tone);
-    match tuned {
+    match band::frequency(mode, width, centre, tone) {
         Ok(x) => hertz(rt, ": ", x)?,
         Err(refusal) => refused(rt, refusal)?,
     }
@@ -70,15 +68,16 @@ pub fn locate(rt: &impl Print, mode: u32, width: u32, centre: u32, hertz: f64) -
     settings(rt, mode, width, centre)?;
     print!(rt; " measured ")?;
     pattern(rt, hertz)?;
-    let located = band::locate(mode, width, centre, hertz);
-    match located {
-        Located::Heard(tone, off) => {
+    match band::locate(mode, width, centre, hertz) {
+        Ok(Heard { tone, hertz_off }) => {
             print!(rt; ": tone {tone} off ")?;
-            pattern(rt, off)?;
+            pattern(rt, hertz_off)?;
         }
-        Located::NotFinite => print!(rt; ": not finite")?,
-        Located::OutsideBand => print!(rt; ": outside the band")?,
-        Err(refusal) => refused(rt, refusal)?,
+        Err(refusal) => match refusal.reason {
+            Reason::NotFinite => print!(rt; ": not finite")?,
+            Reason::OutsideBand => print!(rt; ": outside the band")?,
+            _ => refused(rt, refusal)?,
+        },
     }
     println!(rt; "")
 }
