@@ -1,4 +1,5 @@
 -- The band's edge and spacing and a tone's place, as the code computes them, are exact, and are the fractions of document 01.
+use Rattle.std.proofs.Common.{None}
 use mathlib.Core.Path.{◌≡◌, refl, sym, ap, ap₂, ◌∙◌}
 use mathlib.Core.Bool.{false}
 use Prim.Native.Nat.{ℕ, ◌+◌, ◌-◌, ◌*◌, ◌^◌, ◌<◌, ◌≤◌}
@@ -62,7 +63,7 @@ pub hertz_computed : (band : Band) (n : ℕ)
 unfolding hertz_in
 hertz_computed band n = rw two_whole
 
-module _ (b w c : ℕ) (e : fault b w c 0 ≡ 0) where
+module _ (b w c : ℕ) (e : fault b w c 0 ≡ None) where
   limits : Within b w c
   limits = within b w c 0 e
 
@@ -131,7 +132,7 @@ module _ (b w c : ℕ) (e : fault b w c 0 ≡ 0) where
 
 -- ---- the fractions
 
-module _ (b w c : ℕ) (e : fault b w c 0 ≡ 0) where
+module _ (b w c : ℕ) (e : fault b w c 0 ≡ None) where
   pub edge_fraction : HasValue (scaled (edge512 w c)) false (2 * c - w) 2
   unfolding edge512
   edge_fraction = same_value (scaled (edge512 w c)) (edge512 w c) 512 (2 * c - w) 2 (lit< tt) (omega (arith, (limits b w c e).centre_low)) (scaled_value (edge512 w c))

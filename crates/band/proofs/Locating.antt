@@ -1,13 +1,18 @@
 -- The tests of `locate`, in a band of right settings, and its answers, one by one.
+use Rattle.std.proofs.Common.{None, Ok, Err}
+use Rattle.refusal.specs.declared.Reason.{Reason}
 use mathlib.Core.Path.{◌≡◌, refl, sym, ap, ◌∙◌}
-use mathlib.Core.Bool.{Bool, true, false, cond, not}
-use mathlib.Core.Logic.{◌≢◌}
+use mathlib.Core.Bool.{Bool, true, false, true≢false, not}
 use Prim.Native.Nat.{ℕ, suc, ◌%◌, ◌^◌, ◌≤◌}
 use native.Mathlib.Omega.{arith}
-use borrow.Author.Tests.{eq-eqb, ne_eqb}
-use lib.Dec.{eqb}
-use lib.Ieee.{Float, le}
+use lib.Ieee.{Float, nan, inf, fin, lt, le, is_nan}
+use Rattle.std.proofs.lemmas.Float.{lt_irrefl, lt_of_lt_of_le, lt_of_not-le}
+use Rattle.scaled.proofs.Rounding.{of_value}
+use Rattle.scaled.proofs.Scaling.{scaled_value}
+use Rattle.scaled.specs.Exact.{scaled}
+use Rattle.std.specs.Float.{float_is_finite, NotNan}
 use lib.Ieee.Scale.{finite}
+use lib.Dec.{T}
 use lib.Pow.{pow_mono}
 use Rattle.refusal.specs.Refused.{refused_at}
 use Rattle.refusal.proofs.Limits.{mode_tones}
@@ -15,30 +20,56 @@ use Rattle.scaled_order.specs.Order.{at_least}
 use Rattle.scaled_order.proofs.Comparing.{compared}
 use Rattle.band.specs.Limits.{fault}
 use Rattle.band.specs.Frequencies.{edge512, band_of}
-use Rattle.band.specs.Locating.{tone_edge512, owner_of, in_band, heard_as, located_of, refusal_of, locate_fault}
+use Rattle.band.specs.Locating.{tone_edge512, owner_of, upper512, in_band, heard_as, measured_fault, locate_fault, located_of}
 use Rattle.band.specs.Internal.{tone_edge_in, holds_in, Between, OwnerIn}
 use Rattle.band.proofs.Settings.{passed, within}
 use Rattle.band.proofs.Formulas.{tone_edge_exact}
 use Rattle.band.proofs.Owners.{past_last_edge, owns_by, owner_is, ends}
-use Rattle.std.proofs.Common.{Err}
-use Rattle.refusal.specs.declared.Reason.{Reason}
+
+-- ---- comparisons
+
+pub as_finite : (x : Float) → float_is_finite x ≡ finite x
+unfolding float_is_finite
+as_finite nan = refl
+as_finite (inf s) = refl
+as_finite (fin s m e) = refl
+
+less : (x y : Float) → NotNan x → NotNan y → lt x y ≡ not (le y x)
+less x y p q = by (le y x) refl (lt x y) refl
+  where
+    by : (s : Bool) → le y x ≡ s → (t : Bool) → lt x y ≡ t → t ≡ not s
+    by true h true k = absurd (lt_irrefl x (lt_of_lt_of_le x y x (rw k tt) (rw h tt)))
+    by true h false k = refl
+    by false h true k = refl
+    by false h false k = let g : T (lt x y) = lt_of_not-le y x q p (rw h tt) in absurd (rw k at g)
+
+short_of : (k : ℕ) (x : Float) → finite x ≡ true → lt x (scaled k) ≡ not (at_least k x)
+unfolding is_nan
+short_of k nan f = absurd (true≢false (sym f))
+short_of k (inf s) f = absurd (true≢false (sym f))
+short_of k (fin s m e) f =
+    let x = fin s m e in
+    of_value (λ (y : Float). lt x y ≡ not (le y x)) (scaled k) k 512 (scaled_value k) (λ n d h. less x (fin false n d) tt tt) ∙ ap not (compared k x)
 
 -- ---- the tests
 
-module _ (b w c : ℕ) (x : Float) (e : fault b w c 0 ≡ 0) where
+module _ (b w c : ℕ) (x : Float) (e : fault b w c 0 ≡ None) where
   edge_reached : (n : ℕ) → n ≤ 2 ^ b → le (tone_edge_in (band_of b w c) n) x ≡ at_least (tone_edge512 b w c n) x
   edge_reached n l =
       let few : 2 ^ b ≤ 2 ^ 8 = pow_mono (within b w c 0 e).mode_high in
       ap (λ (y : Float). le y x) (tone_edge_exact b w c e n (omega arith)) ∙ compared (tone_edge512 b w c n) x
 
-  pub held : holds_in (band_of b w c) (2 ^ (b % 16)) x ≡ in_band w c x
+  pub held : finite x ≡ true → holds_in (band_of b w c) (2 ^ (b % 16)) x ≡ in_band w c x
   unfolding holds_in in_band band_of
-  held = rw (
-    mode_tones b (passed b w c 0 e).mode,
-    compared (edge512 w c) x,
-    edge_reached (2 ^ b) (omega arith),
-    past_last_edge b w c e,
-  ) refl
+  held f =
+      let few : 2 ^ b ≤ 2 ^ 8 = pow_mono (within b w c 0 e).mode_high in
+      rw (
+        mode_tones b (passed b w c 0 e).mode,
+        compared (edge512 w c) x,
+        tone_edge_exact b w c e (2 ^ b) (omega arith),
+        past_last_edge b w c e,
+        short_of (upper512 w c) x f,
+      ) refl
 
   pub from_first : in_band w c x ≡ true → Between (band_of b w c) x 0 (2 ^ b)
   from_first h =
@@ -54,33 +85,15 @@ module _ (b w c : ℕ) (x : Float) (e : fault b w c 0 ≡ 0) where
 
 -- ---- the answers
 
-module _ (b w c : ℕ) (x : Float) where
-  pub located_refused : fault b w c 0 ≢ 0 → Err (refused_at (fault b w c 0) 0) ≡ located_of b w c x
-  unfolding located_of
-  located_refused n = rw (ne_eqb (fault b w c 0) 0 n)
+module _ (b w c : ℕ) (x : Float) (e : fault b w c 0 ≡ None) where
+  pub located_not_finite : finite x ≡ false → Err (refused_at Reason.NotFinite 0) ≡ located_of b w c x
+  unfolding located_of locate_fault measured_fault
+  located_not_finite f = rw (e, f)
 
-  module _ (e : fault b w c 0 ≡ 0) where
-    pub located_not_finite : finite x ≡ false → (Err (refused_at Reason.NotFinite 0)) ≡ located_of b w c x
-    unfolding located_of
-    located_not_finite f = rw (eq-eqb (fault b w c 0) 0 e, f)
+  pub located_outside : finite x ≡ true → in_band w c x ≡ false → Err (refused_at Reason.OutsideBand 0) ≡ located_of b w c x
+  unfolding located_of locate_fault measured_fault
+  located_outside f h = rw (e, f, h)
 
-    pub located_outside : finite x ≡ true → in_band w c x ≡ false → (Err (refused_at Reason.OutsideBand 0)) ≡ located_of b w c x
-    unfolding located_of
-    located_outside f h = rw (eq-eqb (fault b w c 0) 0 e, f, h)
-
-    pub located_heard : finite x ≡ true → in_band w c x ≡ true → heard_as b w c x (owner_of b w c x) ≡ located_of b w c x
-    unfolding located_of
-    located_heard f h = rw (eq-eqb (fault b w c 0) 0 e, f, h)
-
-  pub numbered : refusal_of (located_of b w c x) ≡ refused_at (locate_fault b w c x) 0
-  unfolding located_of locate_fault heard_as
-  numbered = by (eqb (fault b w c 0) 0) (finite x) (in_band w c x)
-    where
-      by : (p q r : Bool)
-          → refusal_of (cond (not p) (Err (refused_at (fault b w c 0) 0))
-          (cond (not q) (Err (refused_at Reason.NotFinite 0)) (cond (not r) (Err (refused_at Reason.OutsideBand 0)) (heard_as b w c x (owner_of b w c x)))))
-          ≡ refused_at (cond (not p) (fault b w c 0) (cond (not q) 15 (cond (not r) 16 0))) 0
-      by false q r = refl
-      by true false r = refl
-      by true true false = refl
-      by true true true = refl
+  pub located_heard : finite x ≡ true → in_band w c x ≡ true → Ok (heard_as b w c x (owner_of b w c x)) ≡ located_of b w c x
+  unfolding located_of locate_fault measured_fault
+  located_heard f h = rw (e, f, h)

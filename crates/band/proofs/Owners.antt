@@ -1,4 +1,5 @@
 -- A measurement in the band is in the stretch of one tone and of no other, and that tone is its owner.
+use Rattle.std.proofs.Common.{None}
 use mathlib.Core.Path.{◌≡◌, refl, sym, ◌∙◌}
 use mathlib.Core.Bool.{Bool, true, false, true≢false, not}
 use Prim.Native.Nat.{ℕ, zero, suc, ◌*◌, ◌^◌, ◌<◌, ◌≤◌}
@@ -29,7 +30,7 @@ module _ (b w c : ℕ) where
   unfolding tone_edge512
   first_edge = omega (arith, mul-zero (spacing512 b w))
 
-  pub past_last_edge : fault b w c 0 ≡ 0 → tone_edge512 b w c (2 ^ b) ≡ upper512 w c
+  pub past_last_edge : fault b w c 0 ≡ None → tone_edge512 b w c (2 ^ b) ≡ upper512 w c
   unfolding tone_edge512 upper512 edge512
   past_last_edge e =
       let h = within b w c 0 e in
@@ -87,7 +88,7 @@ module _ (b w c : ℕ) (x : Float) where
 
   -- ---- those of a band
 
-  module _ (e : fault b w c 0 ≡ 0) where
+  module _ (e : fault b w c 0 ≡ None) where
     pub ends : in_band w c x ≡ true → (reached 0 ≡ true) × (reached (2 ^ b) ≡ false)
     unfolding in_band
     ends h =

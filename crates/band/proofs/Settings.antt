@@ -1,4 +1,5 @@
 -- The checks for frequencies, as tests and as numbers.
+use Rattle.std.proofs.Common.{Option, Some, None, Ok}
 use mathlib.Core.Path.{◌≡◌, refl}
 use mathlib.Core.Bool.{Bool, true, false, cond, not, ◌&&◌, ◌||◌}
 use Prim.Native.Nat.{ℕ, ◌*◌, ◌%◌, ◌^◌, ◌<◌, ◌≤◌}
@@ -6,32 +7,23 @@ use native.Mathlib.Omega.{arith}
 use borrow.Author.Tests.{leb-true, ltb-true, eqb-true, lt-ltb}
 use lib.Dec.{leb, ltb, eqb, lit≤}
 use lib.Pow.{pow_pos}
+use Rattle.refusal.specs.declared.Reason.{Reason}
 use Rattle.refusal.specs.Checks.{is_mode}
 use Rattle.refusal.proofs.Limits.{mode_range, mode_tones}
-use Rattle.band.specs.Limits.{is_width, is_centre, fault}
+use Rattle.band.specs.Limits.{is_width, is_centre, fault, answered}
 
--- ---- the first check that fails
+-- ---- what an answer of a check says
 
-module _ (b w c n : ℕ) where
-  pub mode_fails : is_mode b ≡ false → 1 ≡ fault b w c n
-  unfolding fault
-  mode_fails p = rw p
+pub accepted : {A : Type 0} (p : Option Reason) (x y : A) → answered p x ≡ Ok y → (p ≡ None) × (x ≡ y)
+accepted None x y e = (refl, cc)
+accepted (Some reason) x y e = absurd cc
 
-  pub width_fails : is_mode b ≡ true → is_width w ≡ false → 3 ≡ fault b w c n
-  unfolding fault
-  width_fails p q = rw (p, q)
+pub passes : (p : Option Reason) (u : Unit {0}) → answered p (tt {0}) ≡ Ok u → p ≡ None
+passes p u e = (accepted p (tt {0}) u e).0
 
-  pub centre_fails : is_mode b ≡ true → is_width w ≡ true → is_centre w c ≡ false → 4 ≡ fault b w c n
-  unfolding fault
-  centre_fails p q r = rw (p, q, r)
-
-  pub tone_fails : is_mode b ≡ true → is_width w ≡ true → is_centre w c ≡ true → ltb n (2 ^ (b % 16)) ≡ false → 8 ≡ fault b w c n
-  unfolding fault
-  tone_fails p q r s = rw (p, q, r, ← mode_tones b p, s)
-
-  pub none_fails : is_mode b ≡ true → is_width w ≡ true → is_centre w c ≡ true → ltb n (2 ^ (b % 16)) ≡ true → 0 ≡ fault b w c n
-  unfolding fault
-  none_fails p q r s = rw (p, q, r, ← mode_tones b p, s)
+-- the tones of a mode, as their count is computed
+pub mode_tones_of : (b n : ℕ) → is_mode b ≡ true → ltb n (2 ^ (b % 16)) ≡ ltb n (2 ^ b)
+mode_tones_of b n e = rw (mode_tones b e)
 
 -- ---- no check fails
 
@@ -40,35 +32,37 @@ pub record Passed (b w c : ℕ) : Type 0 where
   pub width : is_width w ≡ true
   pub centre : is_centre w c ≡ true
 
-pub passed : (b w c n : ℕ) → fault b w c n ≡ 0 → Passed b w c
+pub passed : (b w c n : ℕ) → fault b w c n ≡ None → Passed b w c
 unfolding fault
 passed b w c n e = by (is_mode b) refl (is_width w) refl (is_centre w c) refl e
   where
     by : (p : Bool) → is_mode b ≡ p → (q : Bool) → is_width w ≡ q → (r : Bool) → is_centre w c ≡ r
-        → ◌≡◌ {A = ℕ} (cond (not p) 1 (cond (not q) 3 (cond (not r) 4 (cond (not (ltb n (2 ^ b))) 8 0)))) 0 → Passed b w c
+        → cond (not p) (Some Reason.Mode)
+        (cond (not q) (Some Reason.Width) (cond (not r) (Some Reason.Centre) (cond (not (ltb n (2 ^ b))) (Some Reason.Tone) None))) ≡ None
+        → Passed b w c
     by true m true h true k e = record { mode = m; width = h; centre = k }
-    by true m true h false k e = absurd (omega (arith, e))
-    by true m false h r k e = absurd (omega (arith, e))
-    by false m q h r k e = absurd (omega (arith, e))
+    by true m true h false k e = absurd cc
+    by true m false h r k e = absurd cc
+    by false m q h r k e = absurd cc
 
-pub other_tone : (b w c m n : ℕ) → fault b w c m ≡ 0 → n < 2 ^ b → fault b w c n ≡ 0
+pub other_tone : (b w c m n : ℕ) → fault b w c m ≡ None → n < 2 ^ b → fault b w c n ≡ None
 unfolding fault
 other_tone b w c m n e l =
     let p = passed b w c m e in
     rw (p.mode, p.width, p.centre, lt-ltb n (2 ^ b) l)
 
-pub tone_0 : (b w c n : ℕ) → fault b w c n ≡ 0 → fault b w c 0 ≡ 0
+pub tone_0 : (b w c n : ℕ) → fault b w c n ≡ None → fault b w c 0 ≡ None
 tone_0 b w c n e = other_tone b w c n 0 e (pow_pos b)
 
-pub tone_range : (b w c n : ℕ) → fault b w c n ≡ 0 → n < 2 ^ b
+pub tone_range : (b w c n : ℕ) → fault b w c n ≡ None → n < 2 ^ b
 unfolding fault
 tone_range b w c n e =
     let p = passed b w c n e in
     by (ltb n (2 ^ b)) refl (rw (p.mode, p.width, p.centre) at e)
   where
-    by : (t : Bool) → ltb n (2 ^ b) ≡ t → ◌≡◌ {A = ℕ} (cond (not t) 8 0) 0 → n < 2 ^ b
+    by : (t : Bool) → ltb n (2 ^ b) ≡ t → cond (not t) (Some Reason.Tone) None ≡ None → n < 2 ^ b
     by true h e = ltb-true n (2 ^ b) h
-    by false h e = absurd (omega (arith, e))
+    by false h e = absurd cc
 
 width_range : (w : ℕ) → is_width w ≡ true → (1 ≤ w) × (w ≤ 2000)
 width_range w e = by (eqb w 125) refl (eqb w 250) refl (eqb w 500) refl (eqb w 1000) refl (eqb w 2000) refl e
@@ -102,7 +96,7 @@ pub record Within (b w c : ℕ) : Type 0 where
   pub centre_high : c ≤ 10000
   pub centre_low : w ≤ 2 * c
 
-pub within : (b w c n : ℕ) → fault b w c n ≡ 0 → Within b w c
+pub within : (b w c n : ℕ) → fault b w c n ≡ None → Within b w c
 within b w c n e =
     let p = passed b w c n e in
     let width = width_range w p.width in

@@ -1,7 +1,7 @@
 -- What the functions of this crate's own promise, of any two numbers that a band may hold.
-use Rattle.std.specs.Prelude.{◌≡◌, Bool, true, false, not, ◌&&◌, ℕ, suc, ◌<◌, Float}
+use Rattle.std.specs.Prelude.{◌≡◌, Bool, true, false, ◌&&◌, ℕ, suc, ◌<◌, Float}
 use Rattle.std.specs.Float.{binary64}
-use Rattle.std.specs.Float.Ieee.{add, mul, le}
+use Rattle.std.specs.Float.Ieee.{add, mul, le, lt}
 use Rattle.scaled.specs.Exact.{whole}
 use Rattle.band.specs.declared.Band.{Band}
 
@@ -11,7 +11,7 @@ tone_edge_in band n = add binary64 band.edge (mul binary64 band.spacing (whole n
 
 -- x reaches the lower edge, and not the one that n tones end at
 unfoldable pub holds_in : Band → ℕ → Float → Bool
-holds_in band n x = le band.edge x && not (le (tone_edge_in band n) x)
+holds_in band n x = le band.edge x && lt x (tone_edge_in band n)
 
 -- x reaches the edge of tone m, and not the one of tone n
 pub record Between (band : Band) (x : Float) (m n : ℕ) : Type 0 where

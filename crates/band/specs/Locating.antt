@@ -1,16 +1,17 @@
 -- Document 02, order 4: the tone that a measured frequency belongs to, and how far it is off that tone. Edges are whole numbers of 1/512 Hz,
 -- and the measurement is compared with them by its own value: nothing is rounded but the distance.
-use Rattle.std.specs.Prelude.{Bool, cond, not, ◌&&◌, ℕ, suc, ◌+◌, ◌*◌, ◌^◌, eqb, Float, Err}
+use Rattle.std.specs.Prelude.{Bool, cond, not, ◌&&◌, Option, Some, None, ℕ, suc, ◌+◌, ◌*◌, ◌^◌, Float}
+use Rattle.std.specs.Option.{option_or}
 use Rattle.std.specs.Float.{binary64}
 use Rattle.std.specs.Float.Ieee.{sub}
 use Rattle.std.specs.Float.Ieee.Scale.{finite}
 use Rattle.lists.specs.Places.{first}
-use Rattle.refusal.specs.Refused.{Answered, refused_at}
-use Rattle.refusal.specs.declared.Refusal.{Refusal}
-use Rattle.scaled_order.specs.Order.{at_least}
-use Rattle.band.specs.Limits.{fault}
-use Rattle.band.specs.Frequencies.{edge512, spacing512, hertz_of}
 use Rattle.refusal.specs.declared.Reason.{Reason}
+use Rattle.refusal.specs.Refused.{Answered}
+use Rattle.scaled_order.specs.Order.{at_least}
+use Rattle.band.specs.Limits.{fault, answered}
+use Rattle.band.specs.Frequencies.{edge512, spacing512, hertz_of}
+use Rattle.band.specs.declared.Heard.{Heard}
 
 -- the lower edge plus n spacings
 unfoldable pub tone_edge512 : ℕ → ℕ → ℕ → ℕ → ℕ
@@ -33,30 +34,19 @@ unfoldable pub in_band : ℕ → ℕ → Float → Bool
 in_band w c x = at_least (edge512 w c) x && not (at_least (upper512 w c) x)
 
 -- x as one of tone n: with the measurement minus that tone's frequency, one f64 subtraction
-unfoldable pub heard_as : ℕ → ℕ → ℕ → Float → ℕ → Answered Heard
-heard_as b w c x n = HEARD n (sub binary64 x (hertz_of b w c n))
+unfoldable pub heard_as : ℕ → ℕ → ℕ → Float → ℕ → Heard
+heard_as b w c x n = record { tone = n; hertz_off = sub binary64 x (hertz_of b w c n) }
 
--- checks 1, 3 and 4, where tone 0 is one of every mode; then 15 and 16
+-- the checks of a measurement, after those of its settings
+unfoldable pub measured_fault : ℕ → ℕ → Float → Option Reason
+measured_fault w c x =
+    cond (not (finite x)) (Some Reason.NotFinite)
+    (cond (not (in_band w c x)) (Some Reason.OutsideBand)
+    None)
+
+-- the first check that fails, if one does; tone 0 is one of every mode
+unfoldable pub locate_fault : ℕ → ℕ → ℕ → Float → Option Reason
+locate_fault b w c x = option_or (fault b w c 0) (measured_fault w c x)
+
 unfoldable pub located_of : ℕ → ℕ → ℕ → Float → Answered Heard
-located_of b w c x =
-    cond (not (eqb (fault b w c 0) 0)) (Err (refused_at (fault b w c 0) 0))
-    (cond (not (finite x)) (Err (refused_at Reason.NotFinite 0))
-    (cond (not (in_band w c x)) (Err (refused_at Reason.OutsideBand 0))
-    (heard_as b w c x (owner_of b w c x))))
-
--- ---- the paper's numbers
-
--- the number and the place of each case; 0 for a tone
-abbrev pub refusal_of : Answered Heard → Refusal
-refusal_of (HEARD n off) = refused_at 0 0
-refusal_of (Err (refused_at Reason.NotFinite 0)) = refused_at Reason.NotFinite 0
-refusal_of (Err (refused_at Reason.OutsideBand 0)) = refused_at Reason.OutsideBand 0
-refusal_of (Err r) = r
-
--- the number of the first check that fails, or 0
-unfoldable pub locate_fault : ℕ → ℕ → ℕ → Float → ℕ
-locate_fault b w c x =
-    cond (not (eqb (fault b w c 0) 0)) (fault b w c 0)
-    (cond (not (finite x)) 15
-    (cond (not (in_band w c x)) 16
-    0))
+located_of b w c x = answered (locate_fault b w c x) (heard_as b w c x (owner_of b w c x))

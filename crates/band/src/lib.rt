@@ -2,13 +2,11 @@
 // document 02, order 4.
 #![tactic(auto)]
 
-ghost use Rattle.std.specs.Prelude.{true, ◌≡◌, ◌%◌, ◌^◌, ltb};
-ghost use Rattle.std.specs.Float.Ieee.Scale.{finite};
+ghost use Rattle.std.specs.Prelude.{true, ◌≡◌, None, ◌%◌, ◌^◌, ltb};
 ghost use Rattle.refusal.specs.Checks.{is_mode};
-ghost use Rattle.refusal.specs.Refused.{refused_at};
-ghost use Rattle.band.specs.Limits.{is_width, is_centre, fault};
+ghost use Rattle.band.specs.Limits.{is_width, is_centre, fault, answered};
 ghost use Rattle.band.specs.Frequencies.{band_of, hertz_in, plan, frequency_of};
-ghost use Rattle.band.specs.Locating.{located_of, refusal_of, locate_fault};
+ghost use Rattle.band.specs.Locating.{located_of};
 ghost use Rattle.band.specs.Internal.{tone_edge_in, holds_in, Between, OwnerIn};
 
 use refusal::{Reason, Refusal, checks};
@@ -22,42 +20,21 @@ pub struct Band {
     pub spacing: f64,
 }
 
-// The band, or the refusal.
+// The tone that a measurement belongs to, and how many Hz the measurement is off that tone.
 #[derive(Clone, Copy)]
-pub enum Planned {
-    Band(Band),
-    Refused(Refusal),
+pub struct Heard {
+    pub tone: u16,
+    pub hertz_off: f64,
 }
-
-// The frequency in Hz, or the refusal.
-#[derive(Clone, Copy)]
-pub enum Tuned {
-    Hertz(f64),
-    Refused(Refusal),
-}
-
-// The tone that a measurement belongs to and how many Hz it is off that tone, or why there is none.
-#[derive(Clone, Copy)]
-pub enum Located {
-    Heard(u16, f64),
-    NotFinite,
-    OutsideBand,
-    Refused(Refusal),
-}
-
-// No check fails.
-const NONE: u8 = 0;
 
 impl Band {
     // The band of a mode, a width and a centre, both in Hz.
+    #[tactic(auto, unfolding(crate::specs::Frequencies::plan))]
     pub fn new(mode: u32, width: u32, centre: u32) -> Result<Band, Refusal>
         ensures { result ≡ plan mode width centre }
     {
         // Tone 0 is one of every mode.
-        let number = fault(mode, width, centre, 0);
-        if number != NONE {
-            return Err(Refusal::at(number, 0));
-        }
+        check(mode, width, centre, 0)?;
         Ok(band_of(mode, width, centre))
     }
 
@@ -66,22 +43,24 @@ impl Band {
         ensures { result ≡ hertz_in self tone }
     {
         let half = self.spacing / 2.0;
-        self.edge + half + self.spacing * (tone as f64)
+        self.edge + half + self.spacing * f64::from(tone)
     }
 
     // Where a tone's stretch begins, and the one of the tone below ends.
+    #[tactic(auto, unfolding(crate::specs::Internal::tone_edge_in))]
     fn tone_edge(self, tone: u16) -> f64
         ensures { result ≡ tone_edge_in self tone }
     {
-        self.edge + self.spacing * (tone as f64)
+        self.edge + self.spacing * f64::from(tone)
     }
 
     // From the lower edge up to, but without, the upper, where the stretch of one more tone would begin.
+    #[tactic(auto, unfolding(crate::specs::Internal::holds_in))]
     fn holds(self, mode: u32, hertz: f64) -> bool
         ensures { result ≡ holds_in self (2 ^ (mode % 16)) hertz }
     {
         let upper = self.tone_edge(checks::tone_count(mode));
-        hertz >= self.edge && !(hertz >= upper)
+        hertz >= self.edge && hertz < upper
     }
 
     // The tone whose stretch holds a measurement in the band, by halving: one comparison for each bit of a tone, so 8 at most.
@@ -104,72 +83,60 @@ impl Band {
 }
 
 // The frequency of a tone of a mode, for a width and a centre, both in Hz.
+#[tactic(auto, unfolding(crate::specs::Frequencies::frequency_of))]
 pub fn frequency(mode: u32, width: u32, centre: u32, tone: u16) -> Result<f64, Refusal>
     ensures { result ≡ frequency_of mode width centre tone }
 {
-    let number = fault(mode, width, centre, tone);
-    if number != NONE {
-        return Err(Refusal::at(number, 0));
-    }
+    check(mode, width, centre, tone)?;
     let band = band_of(mode, width, centre);
     Ok(band.hertz(tone))
 }
 
 // The tone that a measured frequency in Hz belongs to, and the measurement less that tone's frequency.
+#[tactic(auto, unfolding(crate::specs::Locating::located_of, crate::specs::Locating::locate_fault))]
 pub fn locate(mode: u32, width: u32, centre: u32, hertz: f64) -> Result<Heard, Refusal>
-    ensures answer { result ≡ located_of mode width centre hertz }
-    ensures refusal { refusal_of result ≡ refused_at (locate_fault mode width centre hertz) 0 }
+    ensures { result ≡ located_of mode width centre hertz }
 {
     // Tone 0 is one of every mode.
-    let number = fault(mode, width, centre, 0);
-    if number != NONE {
-        return Err(Refusal::at(number, 0));
-    }
-    if !is_finite(hertz) {
-        return Located::NotFinite;
+    check(mode, width, centre, 0)?;
+    if !hertz.is_finite() {
+        return Err(Refusal::at(Reason::NotFinite, 0));
     }
     let band = band_of(mode, width, centre);
     if !band.holds(mode, hertz) {
-        return Located::OutsideBand;
+        return Err(Refusal::at(Reason::OutsideBand, 0));
     }
     let tone = band.owner(mode, hertz);
-    Located::Heard(tone, hertz - band.hertz(tone))
+    Ok(Heard {
+        tone,
+        hertz_off: hertz - band.hertz(tone),
+    })
 }
 
-// Neither an infinity nor a NaN.
-fn is_finite(x: f64) -> bool
-    ensures { result ≡ finite x }
-{
-    let infinity = 1.0 / 0.0;
-    -infinity < x && x < infinity
-}
-
-// The number of the first check that fails: 1, 3, 4, 8.
-fn fault(mode: u32, width: u32, centre: u32, tone: u16) -> u8
-    ensures { result ≡ fault mode width centre tone }
+// The refusal of the first check that fails, if one does.
+#[tactic(auto, using(crate::proofs::Settings::mode_tones_of), unfolding(crate::specs::Limits::fault))]
+fn check(mode: u32, width: u32, centre: u32, tone: u16) -> Result<(), Refusal>
+    ensures { result ≡ answered (fault mode width centre tone) tt }
 {
     if !checks::is_mode(mode) {
-        return Reason::Mode;
+        return Err(Refusal::at(Reason::Mode, 0));
     }
     if !is_width(width) {
-        return Reason::Width;
+        return Err(Refusal::at(Reason::Width, 0));
     }
     if !is_centre(width, centre) {
-        return Reason::Centre;
+        return Err(Refusal::at(Reason::Centre, 0));
     }
     if !is_tone(mode, tone) {
-        return Reason::Tone;
+        return Err(Refusal::at(Reason::Tone, 0));
     }
-    NONE
+    Ok(())
 }
 
 fn is_width(width: u32) -> bool
     ensures { result ≡ is_width width }
 {
-    match width {
-        125 | 250 | 500 | 1000 | 2000 => true,
-        _ => false,
-    }
+    matches!(width, 125 | 250 | 500 | 1000 | 2000)
 }
 
 fn is_centre(width: u32, centre: u32) -> bool
@@ -185,12 +152,12 @@ fn is_tone(mode: u32, tone: u16) -> bool
 }
 
 fn band_of(mode: u32, width: u32, centre: u32) -> Band
-    requires { fault mode width centre 0 ≡ 0 }
+    requires { fault mode width centre 0 ≡ None }
     ensures { result ≡ band_of mode width centre }
 {
-    let centre_hz = centre as f64;
-    let width_hz = width as f64;
-    let tones = checks::tone_count(mode) as f64;
+    let centre_hz = f64::from(centre);
+    let width_hz = f64::from(width);
+    let tones = f64::from(checks::tone_count(mode));
     Band {
         edge: centre_hz - width_hz / 2.0,
         spacing: width_hz / tones,

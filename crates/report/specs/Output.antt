@@ -3,13 +3,14 @@ use Rattle.std.specs.Prelude.{cond, List, [], ◌++◌, ℕ, leb}
 use Rattle.text.specs.Ascii.{ascii, line_feed, space}
 use Rattle.text.specs.Decimal.{field}
 use Rattle.refusal.specs.declared.Refusal.{Refusal}
+use Rattle.refusal.specs.Refused.{number_of}
 
 -- document 01's columns, and those of order 5
 unfoldable pub heading : List ℕ
 heading = ascii "BLOCK CHAR CODE LEAD WORD CORR NEXT CORR\n"
 
 unfoldable pub refused_text : Refusal → List ℕ
-refused_text r = ascii "REFUSED " ++ field r.number space ++ field r.place line_feed
+refused_text r = ascii "REFUSED " ++ field (number_of r.reason) space ++ field r.place line_feed
 
 unfoldable pub unreadable_text : ℕ → List ℕ
 unreadable_text line = ascii "REFUSED INPUT " ++ field line line_feed

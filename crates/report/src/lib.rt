@@ -2,8 +2,10 @@
 // written. Nothing is written to an output of less than ROOM bytes.
 #![tactic(auto)]
 
-ghost use Rattle.std.specs.Prelude.{◌≡◌, ◌≤◌, length};
+ghost use Rattle.std.specs.Prelude.{◌≡◌, ◌++◌, ◌≤◌, length};
 ghost use Rattle.lists.specs.Lists.{over};
+ghost use Rattle.text.specs.Ascii.{line_feed};
+ghost use Rattle.text.specs.Decimal.{field};
 ghost use Rattle.report.specs.Output.{fitting, refused_text, unreadable_text, end_text};
 
 use refusal::Refusal;
@@ -27,27 +29,36 @@ fn put_number_and_place(refusal: Refusal, out: &mut [u8]) -> usize
     ensures answer { result ≡ length (refused_text refusal) }
     ensures output { out.new ≡ over (refused_text refusal) out.old }
 {
-    let place = text::put_labelled(b"REFUSED ", refusal.number as u64, SPACE, out);
+    let number = u64::from(refusal.reason.number());
+    let place = text::put_labelled(b"REFUSED ", number, SPACE, out);
     place + text::put_field(refusal.place as u64, LINE_FEED, &mut out[place..])
 }
 
 // The line of the input that cannot be read, counted from 1.
+#[tactic(auto, unfolding(crate::specs::Output::unreadable_text, text::specs::Ascii::ascii, lists::specs::Lists::tab))]
 pub fn put_unreadable(line: u64, out: &mut [u8]) -> usize
     ensures answer { result ≡ length (fitting (unreadable_text line) (length out.old)) }
     ensures output { out.new ≡ over (fitting (unreadable_text line) (length out.old)) out.old }
 {
-    if out.len() < ROOM {
-        return 0;
-    }
-    text::put_labelled(b"REFUSED INPUT ", line, LINE_FEED, out)
+    put_line(b"REFUSED INPUT ", line, out)
 }
 
+#[tactic(auto, unfolding(crate::specs::Output::end_text, text::specs::Ascii::ascii, lists::specs::Lists::tab))]
 pub fn put_end(blocks: u64, out: &mut [u8]) -> usize
     ensures answer { result ≡ length (fitting (end_text blocks) (length out.old)) }
     ensures output { out.new ≡ over (fitting (end_text blocks) (length out.old)) out.old }
 {
+    put_line(b"END ", blocks, out)
+}
+
+// A line of a short label and a number.
+fn put_line(label: &[u8], n: u64, out: &mut [u8]) -> usize
+    requires { length label.now ≤ 20 }
+    ensures answer { result ≡ length (fitting (label.now ++ field n line_feed) (length out.old)) }
+    ensures output { out.new ≡ over (fitting (label.now ++ field n line_feed) (length out.old)) out.old }
+{
     if out.len() < ROOM {
         return 0;
     }
-    text::put_labelled(b"END ", blocks, LINE_FEED, out)
+    text::put_labelled(label, n, LINE_FEED, out)
 }

@@ -13,7 +13,7 @@ unfolding band_of
 returns c =
     let a = c.args in
     let passes = c.requires in
-    let tones = c.tone_count-tones.ensures ∙ mode_tones a.mode (passed a.mode a.width a.centre 0 passes).mode in
+    let tones = c.tone_count.ensures ∙ mode_tones a.mode (passed a.mode a.width a.centre 0 passes).mode in
     let edge = edge_exact a.mode a.width a.centre passes in
     let spacing = ap (λ (n : ℕ). div binary64 (whole a.width) (whole n)) tones ∙ spacing_exact a.mode a.width a.centre passes in
-    λ i. record { edge = edge i; spacing = spacing i }
+    rw (c.from-centre_hz.ensures, c.from-width_hz.ensures, c.from-tones.ensures) (λ i. record { edge = edge i; spacing = spacing i })

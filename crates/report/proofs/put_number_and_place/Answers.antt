@@ -1,50 +1,46 @@
 -- The place is put into what the number leaves of the output.
-use mathlib.Core.List.{List, ◌++◌}
-use Prim.Native.Nat.{ℕ, ◌<◌, ◌≤◌}
+use Rattle.std.proofs.Common.{◌++◌, ◌≤◌}
 use native.Mathlib.Omega.{arith}
-use lib.ListN.{length}
 use Rattle.lists.specs.Lists.{tab}
 use Rattle.text.specs.Ascii.{ascii, line_feed, space}
 use Rattle.text.specs.Decimal.{field}
-use Rattle.text.specs.Written.{written}
 use Rattle.text.proofs.Decimals.{field_length}
 use Rattle.report.specs.Output.{refused_text}
 use Rattle.text.proofs.Puts.{Put, put_whole, put_after, put_within, put_rest}
 use Rattle.report.proofs.put_number_and_place.Goals as goal
+use Rattle.report.proofs.put_number_and_place.Goals.{After-put_labelled-place, After-put_field}
 
-module _ (n : ℕ) (out : List ℕ) {r : ℕ} {x : List ℕ} (small : n < 256) (room : 50 ≤ length out) (put : Put (written (ascii "REFUSED " ++ field n space) (length out)) out r x) where
-  number : Put (ascii "REFUSED " ++ field n space) out r x
+module _ (c : After-put_labelled-place) where
+  number : let p = c.put_labelled-place in Put (ascii "REFUSED " ++ field c.from-number.result space) c.args.out.now p.result p.new.out
   unfolding ascii tab
-  number = put_whole _ _ (omega (arith, field_length n space (omega arith))) put
+  number =
+      let p = c.put_labelled-place.ensures in
+      put_whole _ _ (omega (arith, field_length c.from-number.result space (omega arith))) (p.answer, p.output)
 
-  number_short : r ≤ 29
+  number_short : c.put_labelled-place.result ≤ 29
   unfolding ascii tab
-  number_short = omega (arith, number.0, field_length n space (omega arith))
+  number_short = omega (arith, number.0, field_length c.from-number.result space (omega arith))
 
 pub slice_bounds-put_field-count : goal.slice_bounds-put_field-count
-unfolding ascii tab
 slice_bounds-put_field-count c =
-    let p = c.put_labelled-place.ensures in
-    put_within _ _ (number c.args.refusal.number c.args.out.now (omega arith) (omega arith) (p.answer, p.output)) (omega (arith, number_short c.args.refusal.number c.args.out.now (omega arith) (omega arith) (p.answer, p.output)))
+    let put = (goal.at.slice_bounds-put_field-count c).After-put_labelled-place in
+    put_within _ _ (number put) (omega (arith, number_short put))
 
 pub slice_bounds-put_field-start : goal.slice_bounds-put_field-start
 slice_bounds-put_field-start c = slice_bounds-put_field-count c
 
 pub overflow_add-result : goal.overflow_add-result
-unfolding ascii tab
 overflow_add-result c =
-    let p = c.put_labelled-place.ensures in
+    let put = (goal.at.overflow_add-result c).After-put_labelled-place in
     let f = c.put_field.ensures in
     let place = field_length c.args.refusal.place line_feed (omega arith) in
-    let short = number_short c.args.refusal.number c.args.out.now (omega arith) (omega arith) (p.answer, p.output) in
-    omega (arith, short, place, (put_rest _ _ (number c.args.refusal.number c.args.out.now (omega arith) (omega arith) (p.answer, p.output)) _ (omega (arith, short, place)) (f.answer, f.output)).0)
+    omega (arith, number_short put, place, (put_rest _ _ (number put) _ (omega (arith, number_short put, place)) (f.answer, f.output)).0)
 
 pub returns : goal.returns
-unfolding refused_text ascii tab
+unfolding refused_text
 returns c =
-    let p = c.put_labelled-place.ensures in
+    let put = (goal.at.returns c).After-put_labelled-place in
     let f = c.put_field.ensures in
     let place = field_length c.args.refusal.place line_feed (omega arith) in
-    let first = number c.args.refusal.number c.args.out.now (omega arith) (omega arith) (p.answer, p.output) in
-    let short = number_short c.args.refusal.number c.args.out.now (omega arith) (omega arith) (p.answer, p.output) in
-    let all = put_after _ _ first _ (put_rest _ _ first _ (omega (arith, short, place)) (f.answer, f.output)) in record { answer = all.0; output = all.1 }
+    let all = put_after _ _ (number put) _ (put_rest _ _ (number put) _ (omega (arith, number_short put, place)) (f.answer, f.output)) in
+    rw (← c.number.ensures, ← c.from-number.ensures) (record { answer = all.0; output = all.1 })

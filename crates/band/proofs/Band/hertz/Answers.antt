@@ -4,4 +4,4 @@ use Rattle.band.proofs.Band.hertz.Goals as goal
 pub returns : goal.returns
 returns c =
     let a = c.args in
-    hertz_computed a.self a.tone
+    rw c.from.ensures (hertz_computed a.self a.tone)

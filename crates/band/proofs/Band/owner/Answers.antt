@@ -47,13 +47,13 @@ loop-init c =
     let s = c.before in
     let tones : c.tone_count-count.result ≡ 2 ^ s.args.mode = c.tone_count-count.ensures ∙ mode_tones s.args.mode s.requires.mode_value in
     let none : s.args.mode - 0 ≡ s.args.mode = omega arith in
-    (omega arith, rw none tones, among_all s.args.self s.args.hertz s.args.mode c.tone_count-count.result tones s.requires.between)
+    (rw none tones, among_all s.args.self s.args.hertz s.args.mode c.tone_count-count.result tones s.requires.between)
 
 pub overflow_add-next : goal.overflow_add-next
 overflow_add-next c =
     let s = c.before.before.before in
     let few : 2 ^ s.args.mode ≤ 2 ^ 8 = pow_mono (mode_range s.args.mode s.requires.mode_value).1 in
-    record { fits = omega (arith, c.loop.invariant.2.few) }
+    record { fits = omega (arith, c.loop.invariant.1.few) }
 
 pub overflow_step : goal.overflow_step
 overflow_step c = record { fits = omega arith }
@@ -65,10 +65,9 @@ loop-preserved c =
     let edge = c.tone_edge in
     let half = l.count / 2 in
     let twice = doubled a.mode l.counter (omega arith) in
-    let both : l.count ≡ half * 2 = omega (arith, l.invariant.1, twice) in
-    let among = subst (λ (n : ℕ). Among a.self a.hertz a.mode l.tone n) both l.invariant.2 in (
-      omega arith,
-      omega (arith, l.invariant.1, twice),
+    let both : l.count ≡ half * 2 = omega (arith, l.invariant.0, twice) in
+    let among = subst (λ (n : ℕ). Among a.self a.hertz a.mode l.tone n) both l.invariant.1 in (
+      omega (arith, l.invariant.0, twice),
       elim c.if-hertz-tone_edge.branch [
         | then-hertz-tone_edge w ↦ upper_half a.self a.hertz a.mode l.tone half edge.result edge.ensures among c.if-hertz-tone_edge.tone w.tone-is w.if-hertz-tone_edge.true
         | else-hertz-tone_edge w ↦ lower_half a.self a.hertz a.mode l.tone half edge.result edge.ensures among c.if-hertz-tone_edge.tone w.tone-is w.if-hertz-tone_edge.false
@@ -79,4 +78,4 @@ pub returns : goal.returns
 returns c =
     let l = c.loop in
     let a = c.args in
-    among_one a.self a.hertz a.mode l.tone l.count l.counter (omega arith) l.invariant.1 l.invariant.2
+    among_one a.self a.hertz a.mode l.tone l.count l.counter (omega arith) l.invariant.0 l.invariant.1

@@ -11,8 +11,4 @@ pub record Among (band : Band) (x : Float) (b tone count : ℕ) : Type 0 where
   pub edges : Between band x tone (tone + count)
 
 abbrev pub invariant-loop : goal.invariant-loop
-invariant-loop l =
-    (l.counter ≤ l.mode) × (l.count ≡ 2 ^ (l.mode - l.counter)) × Among l.self l.hertz l.mode l.tone l.count
-
-abbrev pub decreases-loop : goal.decreases-loop
-decreases-loop l = l.mode - l.counter
+invariant-loop l = (l.count ≡ 2 ^ (l.mode - l.counter)) × Among l.self l.hertz l.mode l.tone l.count
