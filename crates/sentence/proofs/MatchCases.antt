@@ -10,11 +10,9 @@ use borrow.Author.Rules.{part_to_end}
 use lib.Dec.{eqb}
 use lib.ListN.{length, take, drop, get_or, length-drop}
 use lib.Seq.{drop-cons, drop-length, drop-drop}
-use Rattle.sentence.specs.declared.matching.Scanned.{Scanned}
-use Rattle.sentence.specs.declared.matching.Match.{Match}
 use Rattle.sentence.specs.Patterns.{place_mark, lead_mark, is_empty, has}
 use Rattle.sentence.specs.Condition.{is_mark, is_pattern}
-use Rattle.sentence.specs.Reading.{piece, no_match, joined, with_piece, matched}
+use Rattle.sentence.specs.Reading.{Scanned, Match, piece, no_match, joined, with_piece, matched}
 use Rattle.sentence.proofs.Pieces.{piece_inside}
 use Rattle.sentence.proofs.Marks.{Pattern, pattern, match_no_place, match_no_lead}
 

@@ -8,9 +8,8 @@ use borrow.Author.Tests.{eq-eqb, ne_eqb}
 use lib.Dec.{eqb}
 use lib.ListN.{length, get_or}
 use mir.Val.{bool_byte}
-use Rattle.sentence.specs.declared.matching.Scanned.{Scanned}
 use Rattle.sentence.specs.Patterns.{place_mark, lead_mark}
-use Rattle.sentence.specs.Reading.{scan_from, starts_with, piece}
+use Rattle.sentence.specs.Reading.{Scanned, scan_from, starts_with, piece}
 
 module _ (p : ℕ) (bytes : List ℕ) where
   pub piece_at_place : p ≡ 35 → scan_from 65535 false 0 bytes ≡ piece p bytes

@@ -11,8 +11,7 @@ use lib.ListN.{length, drop, get_or}
 use lib.Seq.{drop-cons, drop-length}
 use Rattle.text.specs.Decimal.{is_digit}
 use Rattle.text.proofs.Digits.{is_digit_lem, digit_range}
-use Rattle.sentence.specs.declared.matching.Scanned.{Scanned}
-use Rattle.sentence.specs.Reading.{may_follow, one_more, scan_from}
+use Rattle.sentence.specs.Reading.{Scanned, may_follow, one_more, scan_from}
 use Rattle.sentence.proofs.Following.{Follows, follows, no_digit}
 
 -- ---- one digit more

@@ -8,11 +8,10 @@ use native.Mathlib.Decide.{dec_le}
 use native.Mathlib.Omega.{arith}
 use Rattle.refusal.specs.declared.Refusal.{Refusal}
 use Rattle.refusal.specs.Refused.{refused_at}
-use Rattle.sentence.specs.declared.matching.Match.{Match}
 use Rattle.sentence.specs.Patterns.{most_lead}
 use Rattle.sentence.specs.Sentences.{Row, pattern_in, sentence_in}
 use Rattle.sentence.specs.Condition.{are_sound}
-use Rattle.sentence.specs.Reading.{matched, found, read_from}
+use Rattle.sentence.specs.Reading.{Match, matched, found, read_from}
 use Rattle.sentence.proofs.Soundness.{First, first}
 use Rattle.sentence.proofs.RowCases.{read_here, read_later}
 use Rattle.sentence_laws.proofs.Shared.{shared}

@@ -5,11 +5,10 @@ use mathlib.Core.List.{List, [], ◌∷◌}
 use Prim.Native.Nat.{ℕ, ◌≤◌, max}
 use native.Mathlib.Omega.{arith}
 use Rattle.refusal.specs.declared.Refusal.{Refusal}
-use Rattle.sentence.specs.declared.matching.Match.{Match}
 use Rattle.sentence.specs.Patterns.{lead_mark, most_place, most_lead, filled, has, most_lead_of}
 use Rattle.sentence.specs.Sentences.{Row, pattern_in, sentence_in}
 use Rattle.sentence.specs.Condition.{are_sound}
-use Rattle.sentence.specs.Reading.{matched, found, read_from}
+use Rattle.sentence.specs.Reading.{Match, matched, found, read_from}
 use Rattle.sentence.proofs.Soundness.{IsRow, First, first}
 use Rattle.sentence.proofs.RowCases.{read_here, read_later}
 use Rattle.sentence_laws.proofs.Matching.{match_agrees, match_whole}

@@ -1,44 +1,37 @@
--- Before each turn the bytes of the pattern that are passed took the bytes that are passed.
-use Prim.Native.Nat.{◌+◌}
-use native.Mathlib.Omega.{arith}
-use Rattle.sentence.proofs.MatchCases.{Passed, passed_none, match_end, match_stops, match_more}
+use Rattle.std.proofs.Common.{rules, ◌≡◌, true, false, ◌≤◌, ℕ, ◌+◌, ◌-◌, ◌*◌, ◌<◌, length, ◌/◌, ◌%◌, Bool, nat_eq, nat_lt, List, [], ◌∷◌, ◌++◌, slice_index_or, slice_set, bit_and, bit_or, Fits, w8, w32, w64, Bor, MutBor}
+use Rattle.sentence.specs.Condition.{is_pattern}
+use Rattle.sentence.specs.Reading.{may_follow, scan_from, piece, matched}
+use Rattle.sentence.specs.Internal.{taken, told}
 use Rattle.sentence.proofs.matching.match_pattern.Goals as goal
 
-pub loop-i-init : goal.loop-i-init
-loop-i-init c = let s = c.before.before in (omega arith, passed_none s.args.pattern.now s.args.bytes.now s.requires)
+-- src/matching.rt:18:5
+pub loop-p-init : goal.loop-p-init
+loop-p-init c = ?
 
+-- src/matching.rt:19:50
 pub slice_bounds-take_piece-count : goal.slice_bounds-take_piece-count
-slice_bounds-take_piece-count c = c.loop-i.invariant.1.inside
+slice_bounds-take_piece-count c = ?
 
+-- src/matching.rt:19:50
 pub slice_bounds-take_piece-start : goal.slice_bounds-take_piece-start
-slice_bounds-take_piece-start c = slice_bounds-take_piece-count c
+slice_bounds-take_piece-start c = ?
 
-pub returns-then-taken-eq0 : goal.returns-then-taken-eq0
-returns-then-taken-eq0 c =
-    let l = c.loop-i in
-    let a = c.args in
-    let taken = c.take_piece-taken in
-    match_stops a.pattern.now a.bytes.now l.i l.at l.place l.lead l.invariant.1 (omega arith) taken.result taken.ensures c.if-taken-eq0.true
+-- src/matching.rt:20:13
+pub returns-in_default : goal.returns-in_default
+returns-in_default c = ?
 
--- the bytes of the pattern that are passed with this one
-more : (c : goal.After-struct_known-in-loop-i-1) → let l = c.loop-i in let a = c.args in
-    Passed a.pattern.now a.bytes.now (l.i + 1) (l.at + c.take_piece-taken.result.count) c.pick-place.result c.pick-lead.result
-more c =
-    let l = c.loop-i in
-    let a = c.args in
-    let taken = c.take_piece-taken in
-    rw (c.pick-place.ensures, c.pick-lead.ensures)
-    (match_more a.pattern.now a.bytes.now l.i l.at l.place l.lead l.invariant.1 (omega arith) taken.result taken.ensures
-    c.if-taken-eq0.false)
-
+-- src/matching.rt:27:9
 pub overflow_add-at : goal.overflow_add-at
-overflow_add-at c = omega (arith, (more c).inside)
+overflow_add-at c = ?
 
-pub loop-i-preserved : goal.loop-i-preserved
-loop-i-preserved c = (omega arith, more c)
+-- src/matching.rt:18:5
+pub loop-p-preserved : goal.loop-p-preserved
+loop-p-preserved c = ?
 
-pub returns : goal.returns
-returns c =
-    let l = c.loop-i in
-    let a = c.args in
-    match_end a.pattern.now a.bytes.now l.i l.at l.place l.lead l.invariant.1 (omega arith)
+-- src/matching.rt:11:1
+pub returns-then-at-bytes : goal.returns-then-at-bytes
+returns-then-at-bytes c = ?
+
+-- src/matching.rt:11:1
+pub returns-else-at-bytes : goal.returns-else-at-bytes
+returns-else-at-bytes c = ?

@@ -1,38 +1,41 @@
--- Before each turn the bytes passed are digits of the value.
-use native.Mathlib.Omega.{arith}
-use Rattle.sentence.proofs.ScanCases.{told_follows, told_digit, scans_none, scans_all, scans_stop, scans_more}
+use Rattle.std.proofs.Common.{rules, ◌≡◌, true, false, ◌≤◌, ℕ, ◌+◌, ◌-◌, ◌*◌, ◌<◌, length, ◌/◌, ◌%◌, Bool, nat_eq, nat_lt, List, [], ◌∷◌, ◌++◌, slice_index_or, slice_set, bit_and, bit_or, Fits, w8, w32, w64, Bor, MutBor}
+use Rattle.sentence.specs.Condition.{is_pattern}
+use Rattle.sentence.specs.Reading.{may_follow, scan_from, piece, matched}
+use Rattle.sentence.specs.Internal.{taken, told}
 use Rattle.sentence.proofs.matching.scan.Goals as goal
 
-pub loop-count-init : goal.loop-count-init
-loop-count-init c = (omega arith, omega arith, scans_none c.args.limit c.args.bytes.now)
+-- src/matching.rt:55:5
+pub loop-c-init : goal.loop-c-init
+loop-c-init c = ?
 
-pub returns-then-not-may_follow : goal.returns-then-not-may_follow
-returns-then-not-may_follow c =
-    let l = c.loop-count in
-    let a = c.args in
-    scans_stop a.limit a.bytes.now l.count l.value (omega arith) l.invariant.2 c.may_follow.ensures c.if-not-may_follow.true
+-- src/matching.rt:56:13
+pub may_follow-requires : goal.may_follow-requires
+may_follow-requires c = ?
 
-pub overflow_sub-value : goal.overflow_sub-value
-overflow_sub-value c = omega (arith, told_digit _ _ _ _ c.may_follow.ensures c.if-not-may_follow.false)
+-- src/matching.rt:59:17
+pub overflow_mul-value : goal.overflow_mul-value
+overflow_mul-value c = ?
 
-pub overflow_cast-value : goal.overflow_cast-value
-overflow_cast-value c = omega (arith, told_digit _ _ _ _ c.may_follow.ensures c.if-not-may_follow.false)
+-- src/matching.rt:59:40
+pub overflow_sub-c : goal.overflow_sub-c
+overflow_sub-c c = ?
 
+-- src/matching.rt:59:17
 pub overflow_add-value : goal.overflow_add-value
-overflow_add-value c = omega (arith, (told_follows _ _ _ _ c.may_follow.ensures c.if-not-may_follow.false).fits)
+overflow_add-value c = ?
 
-pub loop-count-preserved : goal.loop-count-preserved
-loop-count-preserved c =
-    let l = c.loop-count in
-    let a = c.args in
-    let told = c.may_follow.ensures in (
-      omega arith,
-      (told_follows _ _ _ _ told c.if-not-may_follow.false).fits,
-      scans_more a.limit a.bytes.now l.count l.value (omega arith) l.invariant.2 told c.if-not-may_follow.false,
-    )
+-- src/matching.rt:60:9
+pub overflow_add-count : goal.overflow_add-count
+overflow_add-count c = ?
 
-pub returns : goal.returns
-returns c =
-    let l = c.loop-count in
-    let a = c.args in
-    scans_all a.limit a.bytes.now l.count l.value (omega arith) (omega arith) l.invariant.2
+-- src/matching.rt:55:5
+pub loop-c-preserved : goal.loop-c-preserved
+loop-c-preserved c = ?
+
+-- src/matching.rt:49:1
+pub returns-then-count-eq0 : goal.returns-then-count-eq0
+returns-then-count-eq0 c = ?
+
+-- src/matching.rt:49:1
+pub returns-else-count-eq0 : goal.returns-else-count-eq0
+returns-else-count-eq0 c = ?

@@ -1,25 +1,21 @@
--- Each answer is one of the cases of a piece.
-use mathlib.Core.Path.{◌∙◌}
-use native.Mathlib.Omega.{arith}
-use Rattle.sentence.proofs.PieceCases.{piece_at_place, piece_at_lead, piece_empty, piece_first}
+use Rattle.std.proofs.Common.{rules, ◌≡◌, true, false, ◌≤◌, ℕ, ◌+◌, ◌-◌, ◌*◌, ◌<◌, length, ◌/◌, ◌%◌, Bool, nat_eq, nat_lt, List, [], ◌∷◌, ◌++◌, slice_index_or, slice_set, bit_and, bit_or, Fits, w8, w32, w64, Bor, MutBor}
+use Rattle.sentence.specs.Condition.{is_pattern}
+use Rattle.sentence.specs.Reading.{may_follow, scan_from, piece, matched}
+use Rattle.sentence.specs.Internal.{taken, told}
 use Rattle.sentence.proofs.matching.take_piece.Goals as goal
 
-pub returns-then-p-eq-PLACE_MARK : goal.returns-then-p-eq-PLACE_MARK
-returns-then-p-eq-PLACE_MARK c =
-    let a = c.args in
-    c.scan.ensures ∙ piece_at_place a.p a.bytes.now c.if-p-eq-PLACE_MARK.true
+-- src/matching.rt:37:1
+pub returns-in-35 : goal.returns-in-35
+returns-in-35 c = ?
 
-pub returns-then-p-eq-LEAD_MARK : goal.returns-then-p-eq-LEAD_MARK
-returns-then-p-eq-LEAD_MARK c =
-    let a = c.args in
-    c.scan-then-p-eq-LEAD_MARK.ensures ∙ piece_at_lead a.p a.bytes.now c.if-p-eq-PLACE_MARK.false c.if-p-eq-LEAD_MARK.true
+-- src/matching.rt:37:1
+pub returns-in-37 : goal.returns-in-37
+returns-in-37 c = ?
 
-pub returns-then-bytes-eq0 : goal.returns-then-bytes-eq0
-returns-then-bytes-eq0 c =
-    let a = c.args in
-    piece_empty a.p a.bytes.now c.if-p-eq-PLACE_MARK.false c.if-p-eq-LEAD_MARK.false (omega arith)
+-- src/matching.rt:37:1
+pub returns-in_default : goal.returns-in_default
+returns-in_default c = ?
 
-pub returns : goal.returns
-returns c =
-    let a = c.args in
-    piece_first a.p a.bytes.now c.if-p-eq-PLACE_MARK.false c.if-p-eq-LEAD_MARK.false (omega arith)
+-- src/matching.rt:37:1
+pub returns-in_default-2 : goal.returns-in_default-2
+returns-in_default-2 c = ?
