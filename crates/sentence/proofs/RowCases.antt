@@ -1,5 +1,5 @@
 -- The functions that go through the rows of a table, over plain variables.
-use Rattle.std.proofs.Common.{◌≡◌, refl, sym, ◌∙◌, ap, Bool, true, false, cond, List, [], ◌∷◌, ℕ, suc, ◌+◌, ◌<◌, max, length, drop, get_or, eqb, ltb, drop-cons, drop_of_length-le, add-one, arith, Result, nat_cmp, Less, Equal, Greater, is_lt, Ok, Err}
+use Rattle.std.proofs.Common.{◌≡◌, refl, sym, ◌∙◌, ap, Bool, true, false, cond, List, [], ◌∷◌, ℕ, ◌+◌, ◌<◌, max, length, drop, get_or, eqb, ltb, drop-cons, drop_of_length-le, add-one, arith, Result, nat_cmp, Less, Equal, Greater, is_lt, Ok, Err}
 use Rattle.std.specs.Ordering.{ord_max}
 use Rattle.std.proofs.lemmas.Bool.{ltb-true, ltb-false}
 use Rattle.std.specs.Borrow.{Bor}
@@ -20,7 +20,7 @@ unfolding told
 told_whole m place lead e = by m.whole refl e
   where
     by : (t : Bool) → m.whole ≡ t → cond {A = Result (ℕ × ℕ) ℕ} t (Ok (m.place, m.lead)) (Err m.shared) ≡ Ok (place, lead) → (m.whole ≡ true) × (m.place ≡ place) × (m.lead ≡ lead)
-    by true w f = (w, cc, cc)
+    by true w f = let same : ◌≡◌ {A = ℕ × ℕ} (m.place, m.lead) (place, lead) = cc in (w, ap (λ (x : ℕ × ℕ). x.0) same, ap (λ (x : ℕ × ℕ). x.1) same)
     by false w f = absurd cc
 
 told_part : (m : Match) (n : ℕ) → told m ≡ Err n → (m.whole ≡ false) × (m.shared ≡ n)

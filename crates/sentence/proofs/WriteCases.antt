@@ -1,18 +1,15 @@
 -- Each answer of the functions that write a sentence, over plain variables.
-use mathlib.Core.Path.{◌≡◌, refl, sym, ◌∙◌, ap}
+use mathlib.Core.Path.{◌≡◌, refl, ◌∙◌, ap}
 use mathlib.Core.Bool.{Bool, true, false, not, ◌&&◌, ◌||◌, and-false}
 use mathlib.Core.List.{List, [], ◌∷◌}
-use Prim.Native.Nat.{ℕ, suc, ◌+◌, ◌<◌, ◌≤◌}
-use native.Mathlib.Numerals.{add-one}
-use native.Mathlib.Omega.{arith}
-use borrow.Author.Tests.{eq-eqb, ne_eqb, le-leb, lt-leb, lt-ltb, le-ltb}
+use Prim.Native.Nat.{ℕ, ◌<◌, ◌≤◌}
+use borrow.Author.Tests.{le-leb, lt-leb, lt-ltb, le-ltb}
 use lib.Dec.{leb, eqb}
-use lib.ListN.{length, drop, get_or}
-use lib.Seq.{drop-cons, drop-length}
+use lib.ListN.{length}
 use Rattle.std.specs.List.{list_any}
 use Rattle.lists.specs.Lists.{over}
 use Rattle.refusal.specs.Refused.{Answered, refused_at}
-use Rattle.sentence.specs.Patterns.{lead_mark, most_place, filled, is_empty, has, most_lead_of, shows}
+use Rattle.sentence.specs.Patterns.{most_place, filled, is_empty, has, most_lead_of, shows}
 use Rattle.sentence.specs.Writing.{write_pattern, text_into, pattern_into}
 use Rattle.std.proofs.Common.{nat_eq, Ok, Err}
 use Rattle.refusal.specs.declared.Reason.{Reason}
@@ -38,6 +35,10 @@ module _ (ps : List ℕ) (place lead : ℕ) (out : List ℕ) where
   unknown : shows ps place lead ≡ false → Writes (Err (refused_at Reason.Sentence 0)) out
   unfolding write_pattern text_into
   unknown e = writes (Err (refused_at Reason.Sentence 0)) out (rw e) refl
+
+  pub no_pattern : ps ≡ [] → Writes (Err (refused_at Reason.Sentence 0)) out
+  unfolding shows is_empty
+  no_pattern e = unknown (rw e)
 
   pub place_above : most_place < place → Writes (Err (refused_at Reason.Sentence 0)) out
   unfolding shows

@@ -39,6 +39,8 @@ pub fn write_sentence(
     ensures answer { result ≡ write_sentence number place lead (length out.old) }
     ensures output { out.new ≡ sentence_into number place lead out.old }
 {
-    let pattern = rows::pattern_of(rows::table(), number).ok_or(Refusal::at(Reason::Sentence, 0))?;
+    let Some(pattern) = rows::pattern_of(rows::table(), number) else {
+        return Err(Refusal::at(Reason::Sentence, 0));
+    };
     writing::write(pattern, place, lead, out)
 }

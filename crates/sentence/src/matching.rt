@@ -37,11 +37,11 @@ pub fn match_pattern(pattern: &[u8], bytes: &[u8]) -> Result<(usize, u32), usize
 fn take_piece(p: u8, bytes: &[u8]) -> Option<(usize, u32)>
     ensures { result ≡ taken (piece p bytes.now) }
 {
-    match p {
-        PLACE_MARK => scan(MOST_PLACE, bytes),
-        LEAD_MARK => scan(MOST_LEAD, bytes),
-        _ if bytes.first().is_some_and(|&c| c == p) => Some((1, 0)),
-        _ => None,
+    match (p, bytes) {
+        (PLACE_MARK, _) => scan(MOST_PLACE, bytes),
+        (LEAD_MARK, _) => scan(MOST_LEAD, bytes),
+        (_, [c, ..]) => (*c == p).then_some((1, 0)),
+        (_, []) => None,
     }
 }
 

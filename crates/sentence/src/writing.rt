@@ -1,5 +1,5 @@
 // A pattern with its place and lead put in, written to an output.
-ghost use Rattle.std.specs.Prelude.{◌≡◌, ◌≤◌, false, length};
+ghost use Rattle.std.specs.Prelude.{◌≡◌, ◌<◌, ◌≤◌, ◌^◌, false, length, sum_by};
 ghost use Rattle.lists.specs.Lists.{over};
 ghost use Rattle.text.specs.Written.{written};
 ghost use Rattle.sentence.specs.Patterns.{piece_text, filled, is_empty, most_lead_of};
@@ -25,7 +25,6 @@ pub fn write(pattern: &[u8], place: usize, lead: u32, out: &mut [u8]) -> Result<
 }
 
 // The largest lead that a pattern shows.
-#[tactic(auto, using(crate::proofs::WriteCases::contains_has), unfolding(crate::specs::Patterns::most_lead_of))]
 fn most_lead(pattern: &[u8]) -> u32
     ensures { result ≡ most_lead_of pattern.now }
 {
@@ -37,8 +36,8 @@ fn most_lead(pattern: &[u8]) -> u32
 }
 
 fn filled_length(pattern: &[u8], place: usize, lead: u32) -> usize
-    requires { length pattern.now ≤ 65535 }
-    ensures { result ≡ length (filled place lead pattern.now) }
+    requires { sum_by (λ p. length (piece_text place lead p)) pattern.now < 2 ^ 64 }
+    ensures { result ≡ sum_by (λ p. length (piece_text place lead p)) pattern.now }
 {
     pattern.iter().map(|&p| piece_length(p, place, lead)).sum()
 }

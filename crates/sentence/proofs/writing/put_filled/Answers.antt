@@ -1,34 +1,42 @@
-use Rattle.std.proofs.Common.{rules, ◌≡◌, ◌≤◌, false, length, ℕ, ◌+◌, ◌-◌, ◌*◌, ◌<◌, ◌/◌, ◌%◌, Bool, true, nat_eq, nat_lt, List, [], ◌∷◌, ◌++◌, slice_index_or, slice_set, bit_and, bit_or, Fits, w8, w32, w64, Bor, MutBor}
-use Rattle.lists.specs.Lists.{over}
-use Rattle.text.specs.Written.{written}
-use Rattle.sentence.specs.Patterns.{piece_text, filled, is_empty, most_lead_of}
-use Rattle.sentence.specs.Writing.{write_pattern, pattern_into}
+-- Before each turn the text of the bytes passed is put.
+use Rattle.std.proofs.Common.{◌+◌, ◌≤◌, length, get_or, arith}
+use Rattle.text.proofs.Puts.{put_none, put_as, put_after, put_within, put_rest}
+use Rattle.sentence.specs.Patterns.{piece_text, filled}
+use Rattle.sentence.proofs.Fillings.{filled_more, filled_room, filled_all}
 use Rattle.sentence.proofs.writing.put_filled.Goals as goal
+use Rattle.sentence.proofs.writing.put_filled.Goals.{In-loop-p}
 
--- src/writing.rt:61:5
 pub loop-p-init : goal.loop-p-init
-loop-p-init c = ?
+unfolding filled
+loop-p-init c = put_none c.args.out.now
 
--- src/writing.rt:62:41
+-- the next piece has room
+room : (c : In-loop-p) → c.loop-p.at + length (piece_text c.args.place c.args.lead (get_or c.args.pattern.now c.loop-p.p-index 0)) ≤ length c.args.out.now
+room c =
+    let l = c.loop-p in
+    omega (arith, l.invariant.0, c.requires, filled_room c.args.place c.args.lead c.args.pattern.now l.p-index c.loop-p-test.true)
+
 pub slice_bounds-put_piece-count : goal.slice_bounds-put_piece-count
-slice_bounds-put_piece-count c = ?
+slice_bounds-put_piece-count c = put_within _ _ c.loop-p.invariant (omega (arith, room (goal.at.slice_bounds-put_piece-count c).In-loop-p))
 
--- src/writing.rt:62:41
 pub slice_bounds-put_piece-start : goal.slice_bounds-put_piece-start
-slice_bounds-put_piece-start c = ?
+slice_bounds-put_piece-start c = slice_bounds-put_piece-count c
 
--- src/writing.rt:62:9
 pub overflow_add-at : goal.overflow_add-at
-overflow_add-at c = ?
+overflow_add-at c =
+    let h = room (goal.at.overflow_add-at c).In-loop-p in
+    let e = c.put_piece-at.ensures in
+    omega (arith, h, (put_rest _ _ c.loop-p.invariant _ h (e.answer, e.output)).0)
 
--- src/writing.rt:61:5
 pub loop-p-preserved : goal.loop-p-preserved
-loop-p-preserved c = ?
+loop-p-preserved c =
+    let l = c.loop-p in
+    let e = c.put_piece-at.ensures in
+    put_as c.args.out.now (filled_more c.args.place c.args.lead c.args.pattern.now l.p-index c.loop-p-test.true)
+    (put_after _ _ l.invariant _ (put_rest _ _ l.invariant _ (room (goal.at.loop-p-preserved c).In-loop-p) (e.answer, e.output)))
 
--- src/writing.rt:55:1
-pub returns-clause-answer : goal.returns-clause-answer
-returns-clause-answer c = ?
-
--- src/writing.rt:55:1
-pub returns-clause-output : goal.returns-clause-output
-returns-clause-output c = ?
+pub returns : goal.returns
+returns c =
+    let l = c.loop-p in
+    let put = rw (filled_all c.args.place c.args.lead c.args.pattern.now l.p-index (omega arith)) at l.invariant in
+    record { answer = put.0; output = put.1 }

@@ -1,9 +1,8 @@
-use Rattle.std.proofs.Common.{◌≡◌, ◌≤◌, false, length, ℕ, ◌+◌, ◌-◌, ◌*◌, ◌<◌}
-use Rattle.lists.specs.Lists.{over}
-use Rattle.text.specs.Written.{written}
-use Rattle.sentence.specs.Patterns.{piece_text, filled, is_empty, most_lead_of}
-use Rattle.sentence.specs.Writing.{write_pattern, pattern_into}
+-- Before each turn the text of the bytes passed is put.
+use Rattle.std.proofs.Common.{take}
+use Rattle.text.proofs.Puts.{Put}
+use Rattle.sentence.specs.Patterns.{filled}
 use Rattle.sentence.proofs.writing.put_filled.Given as goal
 
 abbrev pub invariant-loop-p : goal.invariant-loop-p
-invariant-loop-p l = ?
+invariant-loop-p l = Put (filled l.place l.lead (take l.p-index l.pattern)) l.initial.out l.at l.out

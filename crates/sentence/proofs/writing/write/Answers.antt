@@ -1,32 +1,43 @@
-use Rattle.std.proofs.Common.{rules, ◌≡◌, ◌≤◌, false, length, ℕ, ◌+◌, ◌-◌, ◌*◌, ◌<◌, ◌/◌, ◌%◌, Bool, true, nat_eq, nat_lt, List, [], ◌∷◌, ◌++◌, slice_index_or, slice_set, bit_and, bit_or, Fits, w8, w32, w64, Bor, MutBor}
-use Rattle.lists.specs.Lists.{over}
-use Rattle.text.specs.Written.{written}
-use Rattle.sentence.specs.Patterns.{piece_text, filled, is_empty, most_lead_of}
-use Rattle.sentence.specs.Writing.{write_pattern, pattern_into}
+-- The refusals in their order, and then the text.
+use Rattle.std.proofs.Common.{◌∙◌, ap, arith, Err}
+use Rattle.refusal.specs.declared.Reason.{Reason}
+use Rattle.refusal.specs.Refused.{refused_at}
+use Rattle.sentence.proofs.Fillings.{filled_sum}
+use Rattle.sentence.proofs.Sizes.{filled_short}
+use Rattle.sentence.proofs.WriteCases.{Writes, place_above, lead_above, no_room, room}
 use Rattle.sentence.proofs.writing.write.Goals as goal
+use Rattle.sentence.proofs.writing.write.Goals.{After-at, then-place-via-then-place, then-place-via-else-place+then-most_lead-lead}
 
--- src/writing.rt:19:9
-pub returns-then-place-clause-answer : goal.returns-then-place-clause-answer
-returns-then-place-clause-answer c = ?
+not_shown : (c : After-at) → Writes c.args.pattern.now c.args.place c.args.lead c.args.out.now (Err (refused_at Reason.Sentence 0)) c.args.out.now
+not_shown c = let a = c.args in elim c.then-place.branch [
+  | then-place-via-then-place w ↦ place_above a.pattern.now a.place a.lead a.out.now w.if-place.true
+  | then-place-via-else-place+then-most_lead-lead w ↦
+      lead_above a.pattern.now a.place a.lead a.out.now (omega (arith, w.most_lead.ensures, w.if-most_lead-lead.true))
+]
 
--- src/writing.rt:19:9
-pub returns-then-place-clause-output : goal.returns-then-place-clause-output
-returns-then-place-clause-output c = ?
+pub returns-then-place : goal.returns-then-place
+returns-then-place c = let w = not_shown c in record { answer = ap Err c.at.ensures ∙ w.0; output = w.1 }
 
--- src/writing.rt:22:9
-pub returns-then-out-filled_length-clause-answer :
-    goal.returns-then-out-filled_length-clause-answer
-returns-then-out-filled_length-clause-answer c = ?
+pub filled_length-requires : goal.filled_length-requires
+filled_length-requires c =
+    let a = c.args in
+    let short = filled_short a.place a.lead (omega arith) (omega arith) a.pattern.now in
+    omega (arith, filled_sum a.place a.lead a.pattern.now, short, c.requires.short)
 
--- src/writing.rt:22:9
-pub returns-then-out-filled_length-clause-output :
-    goal.returns-then-out-filled_length-clause-output
-returns-then-out-filled_length-clause-output c = ?
+pub returns-then-out-filled_length : goal.returns-then-out-filled_length
+returns-then-out-filled_length c =
+    let a = c.args in
+    let w = no_room a.pattern.now a.place a.lead a.out.now c.requires.some (omega arith) (omega (arith, c.most_lead.ensures))
+    (omega (arith, c.filled_length.ensures, filled_sum a.place a.lead a.pattern.now)) in
+    record { answer = ap Err c.at-then-out-filled_length.ensures ∙ w.0; output = w.1 }
 
--- src/writing.rt:12:1
-pub returns-clause-answer : goal.returns-clause-answer
-returns-clause-answer c = ?
+pub put_filled-requires : goal.put_filled-requires
+put_filled-requires c = omega (arith, c.filled_length.ensures, filled_sum c.args.place c.args.lead c.args.pattern.now)
 
--- src/writing.rt:12:1
-pub returns-clause-output : goal.returns-clause-output
-returns-clause-output c = ?
+pub returns : goal.returns
+returns c =
+    let a = c.args in
+    let put = c.put_filled in
+    let w = room a.pattern.now a.place a.lead a.out.now c.requires.some (omega arith) (omega (arith, c.most_lead.ensures))
+    (omega (arith, c.filled_length.ensures, filled_sum a.place a.lead a.pattern.now)) put.result _ put.ensures.answer put.ensures.output in
+    record { answer = w.0; output = w.1 }
