@@ -57,8 +57,8 @@ unfolding has is_empty
 has_some c [] e = absurd cc
 has_some c (p ∷ ps) e = refl
 
-pub row_some : (r : Row) → IsRow r → is_empty r.pattern ≡ false
-row_some r row = has_some place_mark r.pattern row.place
+pub row_some : (n : ℕ) (ps : List ℕ) → IsRow n ps → is_empty ps ≡ false
+row_some n ps row = has_some place_mark ps row.place
 
 -- ---- a loop over a table
 
@@ -151,7 +151,7 @@ module _ (table : List Entry) (n : ℕ) where
 
     pub pattern_found : number entry ≡ n → IsPatternOf n (listed table) (get_or table i d).1.now
     unfolding pattern_in
-    pattern_found e = record { same = sym (from_first ∙ (rw (eq-eqb (number entry) n e))); some = row_some entry first_left.row }
+    pattern_found e = record { same = sym (from_first ∙ (rw (eq-eqb (number entry) n e))); some = row_some (number entry) entry.pattern first_left.row }
 
     pub pattern_later : (number entry ≡ n → ⊥) → PatternLeft (i + 1)
     unfolding pattern_in
