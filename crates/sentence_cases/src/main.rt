@@ -18,13 +18,10 @@ fn main(rt: HostRuntime) -> io::Result<()> {
 
 // From 0 to one more than document 02 ever names.
 fn every_number(rt: &impl Print) -> io::Result<()> {
-    let mut number: u32 = 0;
-    while number < 25 {
-        lines::write(rt, number, 0, 0)?;
-        lines::write(rt, number, 7, 0)?;
-        lines::write(rt, number, 1024, 0)?;
-        lines::write(rt, number, 65535, 0)?;
-        number += 1;
+    for number in 0..25 {
+        for place in [0, 7, 1024, 65535] {
+            lines::write(rt, number, place, 0)?;
+        }
     }
     Ok(())
 }
@@ -62,26 +59,23 @@ fn read_input(rt: &impl Print, input: &mut impl Read) -> io::Result<()> {
 fn read_front(input: &mut impl Read, buffer: &mut [u8; 4096]) -> io::Result<usize>
     ensures { IfOk result (λ count. count ≤ 4096) }
 {
-    let mut count: usize = 0;
-    while count < 4096 {
+    let mut count = 0;
+    while count < buffer.len() {
         let more = input.read(&mut buffer[count..])?;
         if more == 0 {
-            return Ok(count);
+            break;
         }
         count += more;
     }
     Ok(count)
 }
 
+// Each line ends in a line feed.
 fn read_lines(rt: &impl Print, bytes: &[u8]) -> io::Result<()> {
-    let mut from: usize = 0;
-    let mut i: usize = 0;
-    while i < bytes.len() {
-        if bytes[i] == b'\n' {
-            lines::read(rt, &bytes[from..i])?;
-            from = i + 1;
+    for piece in bytes.split_inclusive(|&b| b == b'\n') {
+        if let Some(line) = piece.strip_suffix(b"\n") {
+            lines::read(rt, line)?;
         }
-        i += 1;
     }
     Ok(())
 }
