@@ -5,7 +5,8 @@ use mathlib.Core.List.{List, [], ◌∷◌, ◌++◌, append_assoc, append-nil}
 use Prim.Native.Nat.{ℕ, ◌+◌, ◌<◌, ◌≤◌, ◌^◌}
 use native.Mathlib.Numerals.{add-one}
 use native.Mathlib.Omega.{arith}
-use borrow.Author.Tests.{eq-eqb, ne_eqb}
+use Rattle.std.proofs.Common.{sum_by}
+use Rattle.std.proofs.lemmas.List.Sums.{sum_by-cons}
 use lib.Dec.{eqb}
 use lib.ListN.{length, take, drop, get_or, length-append, take-append-drop}
 use lib.Seq.{take-suc, take_all}
@@ -15,18 +16,6 @@ use Rattle.sentence.specs.Patterns.{place_mark, lead_mark, piece_text, filled}
 
 module _ (place lead : ℕ) where
   -- ---- one byte
-
-  pub text_at_place : (p : ℕ) → p ≡ 35 → piece_text place lead p ≡ decimal place
-  unfolding piece_text
-  text_at_place p e = rw (eq-eqb p place_mark e)
-
-  pub text_at_lead : (p : ℕ) → (p ≡ 35 → ⊥) → p ≡ 37 → piece_text place lead p ≡ decimal lead
-  unfolding piece_text
-  text_at_lead p h e = rw (ne_eqb p place_mark h, eq-eqb p lead_mark e)
-
-  pub text_at_byte : (p : ℕ) → (p ≡ 35 → ⊥) → (p ≡ 37 → ⊥) → piece_text place lead p ≡ p ∷ []
-  unfolding piece_text
-  text_at_byte p h k = rw (ne_eqb p place_mark h, ne_eqb p lead_mark k)
 
   pub text_short : (p : ℕ) → place < 2 ^ 64 → lead < 2 ^ 64 → length (piece_text place lead p) ≤ 20
   unfolding piece_text
@@ -38,6 +27,14 @@ module _ (place lead : ℕ) where
       by false false = omega arith
 
   -- ---- all of them
+
+  pub filled_sum : (ps : List ℕ) → sum_by (λ p. length (piece_text place lead p)) ps ≡ length (filled place lead ps)
+  unfolding filled
+  filled_sum [] = refl
+  filled_sum (p ∷ ps) =
+      sum_by-cons (λ q. length (piece_text place lead q)) p ps
+      ∙ ap (λ n. length (piece_text place lead p) + n) (filled_sum ps)
+      ∙ sym (length-append (piece_text place lead p) (filled place lead ps))
 
   pub filled_append : (xs ys : List ℕ) → filled place lead (xs ++ ys) ≡ filled place lead xs ++ filled place lead ys
   unfolding filled
@@ -55,10 +52,6 @@ module _ (place lead : ℕ) where
         ∙ filled_append (take i ps) (get_or ps i 0 ∷ [])
         ∙ ap (λ (t : List ℕ). filled place lead (take i ps) ++ t) (append-nil (piece_text place lead (get_or ps i 0)))
 
-    pub filled_more_length : i < length ps
-        → length (filled place lead (take (i + 1) ps)) ≡ length (filled place lead (take i ps)) + length (piece_text place lead (get_or ps i 0))
-    filled_more_length h = ap length (filled_more h) ∙ length-append (filled place lead (take i ps)) (piece_text place lead (get_or ps i 0))
-
     -- what the bytes passed and the next one take is no more than the whole
     pub filled_room : i < length ps → length (filled place lead (take i ps)) + length (piece_text place lead (get_or ps i 0)) ≤ length (filled place lead ps)
     filled_room h =
@@ -68,7 +61,8 @@ module _ (place lead : ℕ) where
           arith,
           ap length halves,
           length-append (filled place lead (take (i + 1) ps)) (filled place lead (drop (i + 1) ps)),
-          filled_more_length h,
+          ap length (filled_more h),
+          length-append (filled place lead (take i ps)) (piece_text place lead (get_or ps i 0)),
         )
 
     pub filled_all : length ps ≤ i → filled place lead (take i ps) ≡ filled place lead ps

@@ -5,7 +5,6 @@ pub mod Marks
 pub mod ScanCases
 pub mod PieceCases
 pub mod MatchCases
-pub mod Tables
 pub mod RowCases
 pub mod Fillings
 pub mod Sizes

@@ -7,11 +7,9 @@ use native.Mathlib.Omega.{arith}
 use borrow.Author.Tests.{not-true}
 use lib.Dec.{eqb}
 use lib.ListN.{drop}
-use Rattle.sentence.specs.declared.matching.Scanned.{Scanned}
-use Rattle.sentence.specs.declared.matching.Match.{Match}
 use Rattle.sentence.specs.Patterns.{place_mark, lead_mark, is_empty, has}
 use Rattle.sentence.specs.Condition.{is_mark, ends_number, is_pattern}
-use Rattle.sentence.specs.Reading.{piece, no_match, joined, with_piece, matched}
+use Rattle.sentence.specs.Reading.{Scanned, Match, piece, no_match, joined, with_piece, matched}
 
 -- ---- a pattern's first byte, and the rest
 

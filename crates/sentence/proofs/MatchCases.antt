@@ -5,18 +5,53 @@ use mathlib.Core.List.{List, [], ◌∷◌}
 use Prim.Native.Nat.{ℕ, suc, ◌+◌, ◌-◌, ◌<◌, ◌≤◌}
 use native.Mathlib.Numerals.{add-one}
 use native.Mathlib.Omega.{arith}
-use borrow.Author.Tests.{eqb-true, eq-eqb, ne_eqb}
+use borrow.Author.Tests.{eqb-true, eqb-false, eq-eqb, ne_eqb}
 use borrow.Author.Rules.{part_to_end}
+use Rattle.std.proofs.Common.{Option, Some, None, Ok, Err}
 use lib.Dec.{eqb}
 use lib.ListN.{length, take, drop, get_or, length-drop}
 use lib.Seq.{drop-cons, drop-length, drop-drop}
-use Rattle.sentence.specs.declared.matching.Scanned.{Scanned}
-use Rattle.sentence.specs.declared.matching.Match.{Match}
 use Rattle.sentence.specs.Patterns.{place_mark, lead_mark, is_empty, has}
 use Rattle.sentence.specs.Condition.{is_mark, is_pattern}
-use Rattle.sentence.specs.Reading.{piece, no_match, joined, with_piece, matched}
+use Rattle.sentence.specs.Reading.{Scanned, Match, piece, no_match, joined, with_piece, matched}
+use Rattle.sentence.specs.Internal.{taken, told}
 use Rattle.sentence.proofs.Pieces.{piece_inside}
 use Rattle.sentence.proofs.Marks.{Pattern, pattern, match_no_place, match_no_lead}
+
+-- ---- what a piece and a match are told as
+
+pub told_piece : (s : Scanned) (n v : ℕ) → Some (n, v) ≡ taken s → (record { count = n; value = v } ≡ s) × (n ≡ 0 → ⊥)
+unfolding taken
+told_piece s n v e = by (eqb s.count 0) refl e
+  where
+    by : (t : Bool) → eqb s.count 0 ≡ t → Some (n, v) ≡ cond {A = Option (ℕ × ℕ)} t None (Some (s.count, s.value))
+        → (record { count = n; value = v } ≡ s) × (n ≡ 0 → ⊥)
+    by true f g = absurd cc
+    by false f g =
+        let same : ◌≡◌ {A = ℕ × ℕ} (n, v) (s.count, s.value) = cc in
+        let count : n ≡ s.count = ap (λ (x : ℕ × ℕ). x.0) same in
+        let value : v ≡ s.value = ap (λ (x : ℕ × ℕ). x.1) same in
+        (rw (count, value), λ z. eqb-false s.count 0 f (sym count ∙ z))
+
+pub told_none : (s : Scanned) → None ≡ taken s → s.count ≡ 0
+unfolding taken
+told_none s e = by (eqb s.count 0) refl e
+  where
+    by : (t : Bool) → eqb s.count 0 ≡ t → None ≡ cond {A = Option (ℕ × ℕ)} t None (Some (s.count, s.value)) → s.count ≡ 0
+    by true f g = eqb-true s.count 0 f
+    by false f g = absurd cc
+
+-- a number where its mark stands, and elsewhere
+pub marked : (p mark v n : ℕ) → p ≡ mark → v ≡ cond (eqb p mark) v n
+marked p mark v n e = rw (eq-eqb p mark e)
+
+pub unmarked : (p mark v n : ℕ) → (p ≡ mark → ⊥) → n ≡ cond (eqb p mark) v n
+unmarked p mark v n e = rw (ne_eqb p mark e)
+
+pub elsewhere : (p mark other v n : ℕ) → p ≡ other → eqb other mark ≡ false → n ≡ cond (eqb p mark) v n
+elsewhere p mark other v n e f = rw (e, f)
+
+-- ---- a loop over a pattern
 
 -- a match that goes on after at bytes, in which place and lead were found
 abbrev gone_on : ℕ → ℕ → ℕ → Match → Match
@@ -57,13 +92,21 @@ module _ (ps bytes : List ℕ) where
         by [] e = sym (eq-eqb at (length bytes) (omega (arith, passed.inside)))
         by (c ∷ l) e = sym (ne_eqb at (length bytes) (λ h. omega arith))
 
-    pub match_end : i ≡ length ps → record { shared = at; whole = eqb at (length bytes); place = place; lead = lead } ≡ matched ps bytes
+    at_end : i ≡ length ps → record { shared = at; whole = eqb at (length bytes); place = place; lead = lead } ≡ matched ps bytes
     unfolding matched
-    match_end e =
+    at_end e =
         let last : matched (drop i ps) (drop at bytes) ≡ record { shared = 0; whole = is_empty (drop at bytes); place = 0; lead = 0 } =
         rw (e, drop-length ps) in
         ap (λ (t : Bool). record { shared = at; whole = t; place = place; lead = lead }) (sym none_left)
         ∙ ended (record { shared = 0; whole = is_empty (drop at bytes); place = 0; lead = 0 }) refl refl refl last
+
+    pub match_whole : i ≡ length ps → at ≡ length bytes → Ok (place, lead) ≡ told (matched ps bytes)
+    unfolding told
+    match_whole e f = ap told (rw (eq-eqb at (length bytes) f) at (at_end e))
+
+    pub match_part : i ≡ length ps → (at ≡ length bytes → ⊥) → Err at ≡ told (matched ps bytes)
+    unfolding told
+    match_part e f = ap told (rw (ne_eqb at (length bytes) f) at (at_end e))
 
     module _ (h : i < length ps) (s : Scanned) (taken : s ≡ piece (get_or ps i 0) (take (length bytes - at) (drop at bytes))) where
       p : ℕ
@@ -84,11 +127,11 @@ module _ (ps bytes : List ℕ) where
       unfolding matched
       here = ap (λ (l : List ℕ). matched l (drop at bytes)) is_first ∙ (rw (← taken_here))
 
-      pub match_stops : s.count ≡ 0 → record { shared = at; whole = false; place = place; lead = lead } ≡ matched ps bytes
-      unfolding with_piece
+      pub match_stops : s.count ≡ 0 → Err at ≡ told (matched ps bytes)
+      unfolding with_piece told
       match_stops z =
           let none : with_piece p s (matched later (drop s.count (drop at bytes))) ≡ no_match = rw (eq-eqb s.count 0 z) in
-          ended no_match refl refl refl (here ∙ none)
+          ap told (ended no_match refl refl refl (here ∙ none))
 
       parts : Pattern p later
       parts = pattern p later (rw is_first at passed.rest)

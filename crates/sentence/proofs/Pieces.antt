@@ -7,9 +7,8 @@ use native.Mathlib.Omega.{arith}
 use borrow.Author.Tests.{eqb-true, ne_eqb}
 use lib.Dec.{eqb}
 use lib.ListN.{length}
-use Rattle.sentence.specs.declared.matching.Scanned.{Scanned}
 use Rattle.sentence.specs.Patterns.{place_mark, lead_mark, most_place, most_lead}
-use Rattle.sentence.specs.Reading.{may_follow, one_more, scan_from, starts_with, piece}
+use Rattle.sentence.specs.Reading.{Scanned, may_follow, one_more, scan_from, starts_with, piece}
 
 -- a byte of a pattern is the place's mark, the lead's, or text
 pub data Kind (p : ℕ) : Type 0 where

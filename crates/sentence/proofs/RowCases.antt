@@ -1,62 +1,46 @@
--- Each answer of the functions that go through the rows, over plain variables.
-use mathlib.Core.Path.{◌≡◌, refl, sym, ◌∙◌, ap}
-use mathlib.Core.Bool.{true, false}
-use mathlib.Core.List.{List, [], ◌∷◌}
-use Prim.Native.Nat.{ℕ, ◌+◌, ◌-◌, ◌<◌, ◌≤◌, max}
+-- The functions that go through the rows of a table, over plain variables.
+use Rattle.std.proofs.Common.{◌≡◌, refl, sym, ◌∙◌, ap, Bool, true, false, cond, List, [], ◌∷◌, ℕ, ◌+◌, ◌<◌, max, length, drop, get_or, eqb, ltb, drop-cons, drop_of_length-le, add-one, arith, Result, nat_cmp, Less, Equal, Greater, is_lt, Ok, Err}
+use Rattle.std.specs.Ordering.{ord_max}
+use Rattle.std.proofs.lemmas.Bool.{ltb-true, ltb-false}
+use Rattle.std.specs.Borrow.{Bor}
 use borrow.Author.Tests.{eq-eqb, ne_eqb}
-use lib.ListN.{length, take, drop, get_or}
-use Rattle.refusal.specs.Refused.{refused_at}
-use Rattle.sentence.specs.declared.matching.Match.{Match}
-use Rattle.sentence.specs.Sentences.{Row, sentences, pattern_in}
-use Rattle.sentence.specs.Condition.{is_pattern}
-use Rattle.sentence.specs.Reading.{matched, found, read_from}
-use Rattle.sentence.specs.Internal.{flat}
-use Rattle.sentence.proofs.Soundness.{sound}
-use Rattle.sentence.proofs.Tables.{Head, Rest, head, rest_none}
-use Rattle.std.proofs.Common.{Ok, Err}
 use Rattle.refusal.specs.declared.Reason.{Reason}
+use Rattle.refusal.specs.Refused.{refused_at}
+use Rattle.sentence.specs.Patterns.{place_mark, is_empty, has}
+use Rattle.sentence.specs.Sentences.{Row, number, pattern_in}
+use Rattle.sentence.specs.Condition.{is_pattern, are_sound}
+use Rattle.sentence.specs.Reading.{Match, matched, found, read_from}
+use Rattle.sentence.specs.Internal.{listed, IsPatternOf, told}
+use Rattle.sentence.proofs.Soundness.{IsRow, First, first}
 
--- the bytes of the pattern of the row that begins at a place
-abbrev pub pattern_at : List ℕ → ℕ → List ℕ
-pattern_at table at = take (at + 2 + get_or table (at + 1) 0 - (at + 2)) (drop (at + 2) table)
+-- ---- what a match is told as
 
--- ---- the pattern of a number
+told_whole : (m : Match) (place lead : ℕ) → told m ≡ Ok (place, lead) → (m.whole ≡ true) × (m.place ≡ place) × (m.lead ≡ lead)
+unfolding told
+told_whole m place lead e = by m.whole refl e
+  where
+    by : (t : Bool) → m.whole ≡ t → cond {A = Result (ℕ × ℕ) ℕ} t (Ok (m.place, m.lead)) (Err m.shared) ≡ Ok (place, lead) → (m.whole ≡ true) × (m.place ≡ place) × (m.lead ≡ lead)
+    by true w f = let same : ◌≡◌ {A = ℕ × ℕ} (m.place, m.lead) (place, lead) = cc in (w, ap (λ (x : ℕ × ℕ). x.0) same, ap (λ (x : ℕ × ℕ). x.1) same)
+    by false w f = absurd cc
 
-module _ (table : List ℕ) (n : ℕ) where
-  -- the rows that are left have the number's pattern
-  abbrev pub PatternLeft : ℕ → Type 0
-  PatternLeft at = Rest table at (pattern_in sentences n) (λ left. pattern_in left n)
+told_part : (m : Match) (n : ℕ) → told m ≡ Err n → (m.whole ≡ false) × (m.shared ≡ n)
+unfolding told
+told_part m n e = by m.whole refl e
+  where
+    by : (t : Bool) → m.whole ≡ t → cond {A = Result (ℕ × ℕ) ℕ} t (Ok (m.place, m.lead)) (Err m.shared) ≡ Err n → (m.whole ≡ false) × (m.shared ≡ n)
+    by true w f = absurd cc
+    by false w f = (w, cc)
 
-  pub pattern_start : table ≡ flat sentences → PatternLeft 0
-  pattern_start e = record { left = sentences; in_table = e; sound = sound; same = refl }
+-- ---- one row before others
 
-  module _ (at : ℕ) (r : PatternLeft at) where
-    pub pattern_none : length table ≤ at → [] ≡ pattern_in sentences n
-    unfolding pattern_in
-    pattern_none h = sym (rest_none table at (pattern_in sentences n) (λ left. pattern_in left n) r h)
-
-    module _ (h : at < length table) where
-      pub pattern_head : Head table at r.left
-      pattern_head = head table at (pattern_in sentences n) (λ left. pattern_in left n) r h
-
-      from_head : pattern_in sentences n ≡ pattern_in (pattern_head.row ∷ pattern_head.later) n
-      from_head = r.same ∙ ap (λ (l : List Row). pattern_in l n) pattern_head.is_left
-
-      pub pattern_found : get_or table at 0 ≡ n → pattern_at table at ≡ pattern_in sentences n
-      unfolding pattern_in
-      pattern_found e =
-          let top = pattern_head in
-          let here : pattern_in (top.row ∷ top.later) n ≡ top.row.pattern = rw (eq-eqb top.row.number n (sym top.number ∙ e)) in
-          top.pattern ∙ sym (from_head ∙ here)
-
-      pub pattern_later : (get_or table at 0 ≡ n → ⊥) → PatternLeft (at + 2 + get_or table (at + 1) 0)
-      unfolding pattern_in
-      pattern_later e =
-          let top = pattern_head in
-          let later : pattern_in (top.row ∷ top.later) n ≡ pattern_in top.later n = rw (ne_eqb top.row.number n (λ f. e (top.number ∙ f))) in
-          record { left = top.later; in_table = top.next; sound = top.sound.rest; same = from_head ∙ later }
-
--- ---- what bytes are read as
+-- the library's `max` is that of numbers
+pub max_is : (a b : ℕ) → ord_max nat_cmp a b ≡ max a b
+max_is a b = by (ltb b a) refl (eqb b a)
+  where
+    by : (t : Bool) → ltb b a ≡ t → (s : Bool) → cond (is_lt (cond t Less (cond s Equal Greater))) a b ≡ max a b
+    by true e s = omega (arith, ltb-true b a e)
+    by false e true = omega (arith, ltb-false b a e)
+    by false e false = omega (arith, ltb-false b a e)
 
 module _ (r : Row) (rs : List Row) (best : ℕ) (bytes : List ℕ) where
   pub read_here : (matched r.pattern bytes).whole ≡ true → read_from (r ∷ rs) best bytes ≡ Ok (found r bytes)
@@ -68,46 +52,107 @@ module _ (r : Row) (rs : List Row) (best : ℕ) (bytes : List ℕ) where
   unfolding read_from
   read_later w = rw w
 
-module _ (table bytes : List ℕ) where
-  -- the rows that are left decide what the bytes are read as, where those before share best bytes
-  abbrev pub ReadLeft : ℕ → ℕ → Type 0
-  ReadLeft at best = Rest table at (read_from sentences 0 bytes) (λ left. read_from left best bytes)
+has_some : (c : ℕ) (ps : List ℕ) → has c ps ≡ true → is_empty ps ≡ false
+unfolding has is_empty
+has_some c [] e = absurd cc
+has_some c (p ∷ ps) e = refl
 
-  pub read_start : table ≡ flat sentences → ReadLeft 0 0
-  read_start e = record { left = sentences; in_table = e; sound = sound; same = refl }
+pub row_some : (n : ℕ) (ps : List ℕ) → IsRow n ps → is_empty ps ≡ false
+row_some n ps row = has_some place_mark ps row.place
 
-  module _ (at best : ℕ) (r : ReadLeft at best) where
-    pub read_none : length table ≤ at → Err (refused_at Reason.Sentence best) ≡ read_from sentences 0 bytes
-    unfolding read_from
-    read_none h = sym (rest_none table at (read_from sentences 0 bytes) (λ left. read_from left best bytes) r h)
+-- ---- a loop over a table
 
-    module _ (h : at < length table) where
-      pub read_head : Head table at r.left
-      read_head = head table at (read_from sentences 0 bytes) (λ left. read_from left best bytes) r h
+abbrev pub Entry : Type 0
+Entry = Reason × Bor (List ℕ)
 
-      pub head_pattern : is_pattern (pattern_at table at) ≡ true
-      head_pattern = rw read_head.pattern read_head.sound.row.pattern
+-- an entry as a row
+abbrev pub row_at : List Entry → ℕ → Entry → Row
+row_at table i d = record { reason = (get_or table i d).0; pattern = (get_or table i d).1.now }
 
-      from_rows : read_from sentences 0 bytes ≡ read_from (read_head.row ∷ read_head.later) best bytes
-      from_rows = r.same ∙ ap (λ (l : List Row). read_from l best bytes) read_head.is_left
+goes_on : (table : List Entry) (i : ℕ) (d : Entry) → i < length table → listed (drop i table) ≡ row_at table i d ∷ listed (drop (i + 1) table)
+goes_on table i d h = rw (add-one i) (ap listed (drop-cons table i d h))
 
-      module _ (m : Match) (by-match : m ≡ matched (pattern_at table at) bytes) where
-        own : m ≡ matched read_head.row.pattern bytes
-        own = by-match ∙ ap (λ (l : List ℕ). matched l bytes) read_head.pattern
+sound_at : (table : List Entry) (i : ℕ) (d : Entry) → i < length table → are_sound (listed (drop i table)) ≡ true
+    → First (row_at table i d) (listed (drop (i + 1) table))
+sound_at table i d h e = first (row_at table i d) (listed (drop (i + 1) table)) (ap are_sound (sym (goes_on table i d h)) ∙ e)
 
-        pub read_found : m.whole ≡ true → Ok (record { number = get_or table at 0; place = m.place; lead = m.lead }) ≡ read_from sentences 0 bytes
-        read_found w =
-            let here = read_here read_head.row read_head.later best bytes (sym (ap (λ (x : Match). x.whole) own) ∙ w) in
-            sym (from_rows ∙ here
-            ∙ ap (λ (x : Match). Ok (record { number = read_head.row.number; place = x.place; lead = x.lead })) (sym own)
-            ∙ ap (λ (n : ℕ). Ok (record { number = n; place = m.place; lead = m.lead })) (sym read_head.number))
+-- ---- what bytes are read as
 
-        pub read_more : m.whole ≡ false → ReadLeft (at + 2 + get_or table (at + 1) 0) (max best m.shared)
-        read_more w =
-            let later = read_later read_head.row read_head.later best bytes (sym (ap (λ (x : Match). x.whole) own) ∙ w) in
-            record {
-              left = read_head.later;
-              in_table = read_head.next;
-              sound = read_head.sound.rest;
-              same = from_rows ∙ later ∙ ap (λ (x : Match). read_from read_head.later (max best x.shared) bytes) (sym own);
-            }
+module _ (table : List Entry) (bytes : List ℕ) where
+  -- the rows that are left decide it, where those before share best bytes
+  pub record ReadLeft (i best : ℕ) : Type 0 where
+    pub sound : are_sound (listed (drop i table)) ≡ true
+    pub same : read_from (listed table) 0 bytes ≡ read_from (listed (drop i table)) best bytes
+
+  pub read_start : are_sound (listed table) ≡ true → ReadLeft 0 0
+  read_start e = record { sound = e; same = refl }
+
+  pub read_none : (i best : ℕ) → ReadLeft i best → i ≡ length table → Err (refused_at Reason.Sentence best) ≡ read_from (listed table) 0 bytes
+  unfolding read_from
+  read_none i best r e = sym (r.same ∙ ap (λ (l : List Entry). read_from (listed l) best bytes) (drop_of_length-le table (omega arith)))
+
+  module _ (i best : ℕ) (r : ReadLeft i best) (d : Entry) (h : i < length table) where
+    abbrev row : Row
+    row = row_at table i d
+
+    abbrev later : List Row
+    later = listed (drop (i + 1) table)
+
+    top : First row later
+    top = sound_at table i d h r.sound
+
+    from_row : read_from (listed table) 0 bytes ≡ read_from (row ∷ later) best bytes
+    from_row = r.same ∙ ap (λ (l : List Row). read_from l best bytes) (goes_on table i d h)
+
+    pub row_pattern : is_pattern (get_or table i d).1.now ≡ true
+    row_pattern = top.row.pattern
+
+    pub read_found : (place lead : ℕ) → Ok (place, lead) ≡ told (matched (get_or table i d).1.now bytes)
+        → Ok (record { reason = (get_or table i d).0; place = place; lead = lead }) ≡ read_from (listed table) 0 bytes
+    read_found place lead e =
+        let t = told_whole (matched row.pattern bytes) place lead (sym e) in
+        sym (from_row ∙ read_here row later best bytes t.0 ∙ (rw (t.1, t.2)))
+
+    pub read_more : (shared : ℕ) → Err shared ≡ told (matched (get_or table i d).1.now bytes) → ReadLeft (i + 1) (max best shared)
+    read_more shared e =
+        let t = told_part (matched row.pattern bytes) shared (sym e) in
+        record {
+          sound = top.rest;
+          same = from_row ∙ read_later row later best bytes t.0 ∙ ap (λ (n : ℕ). read_from later (max best n) bytes) t.1;
+        }
+
+-- ---- the pattern of a number
+
+module _ (table : List Entry) (n : ℕ) where
+  -- the rows that are left have the number's pattern
+  pub record PatternLeft (i : ℕ) : Type 0 where
+    pub sound : are_sound (listed (drop i table)) ≡ true
+    pub same : pattern_in (listed table) n ≡ pattern_in (listed (drop i table)) n
+
+  pub pattern_start : are_sound (listed table) ≡ true → PatternLeft 0
+  pattern_start e = record { sound = e; same = refl }
+
+  pub pattern_none : (i : ℕ) → PatternLeft i → i ≡ length table → pattern_in (listed table) n ≡ []
+  unfolding pattern_in
+  pattern_none i r e = r.same ∙ ap (λ (l : List Entry). pattern_in (listed l) n) (drop_of_length-le table (omega arith))
+
+  module _ (i : ℕ) (r : PatternLeft i) (d : Entry) (h : i < length table) where
+    abbrev entry : Row
+    entry = row_at table i d
+
+    abbrev rest : List Row
+    rest = listed (drop (i + 1) table)
+
+    first_left : First entry rest
+    first_left = sound_at table i d h r.sound
+
+    from_first : pattern_in (listed table) n ≡ pattern_in (entry ∷ rest) n
+    from_first = r.same ∙ ap (λ (l : List Row). pattern_in l n) (goes_on table i d h)
+
+    pub pattern_found : number entry ≡ n → IsPatternOf n (listed table) (get_or table i d).1.now
+    unfolding pattern_in
+    pattern_found e = record { same = sym (from_first ∙ (rw (eq-eqb (number entry) n e))); some = row_some (number entry) entry.pattern first_left.row }
+
+    pub pattern_later : (number entry ≡ n → ⊥) → PatternLeft (i + 1)
+    unfolding pattern_in
+    pattern_later e = record { sound = first_left.rest; same = from_first ∙ (rw (ne_eqb (number entry) n e)) }

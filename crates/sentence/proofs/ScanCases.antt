@@ -1,51 +1,39 @@
 -- Each answer of the functions that scan a number, over plain variables.
-use mathlib.Core.Path.{◌≡◌, sym, ◌∙◌, ap}
-use mathlib.Core.Bool.{Bool, true, false, not, and-false}
+use mathlib.Core.Path.{◌≡◌, refl, sym, ◌∙◌, ap}
+use mathlib.Core.Bool.{Bool, true, false, cond, not}
 use mathlib.Core.List.{List}
 use Prim.Native.Nat.{ℕ, suc, ◌+◌, ◌-◌, ◌*◌, ◌<◌, ◌≤◌}
 use native.Mathlib.Numerals.{add-one}
 use native.Mathlib.Omega.{arith}
-use borrow.Author.Tests.{le-leb, lt-leb, lt-ltb}
-use lib.Dec.{leb, ltb, eqb}
+use borrow.Author.Tests.{lt-ltb}
+use lib.Dec.{ltb, eqb}
 use lib.ListN.{length, drop, get_or}
 use lib.Seq.{drop-cons, drop-length}
-use Rattle.text.specs.Decimal.{is_digit}
-use Rattle.text.proofs.Digits.{is_digit_lem, digit_range}
-use Rattle.sentence.specs.declared.matching.Scanned.{Scanned}
-use Rattle.sentence.specs.Reading.{may_follow, one_more, scan_from}
-use Rattle.sentence.proofs.Following.{Follows, follows, no_digit}
+use Rattle.std.proofs.Common.{Option, Some, None}
+use Rattle.std.specs.Bool.{then_some}
+use Rattle.text.proofs.Digits.{digit_range}
+use Rattle.sentence.specs.Reading.{Scanned, may_follow, one_more, scan_from}
+use Rattle.sentence.specs.Internal.{taken}
+use Rattle.sentence.proofs.Following.{Follows, follows}
 
 -- ---- one digit more
 
 module _ (limit : ℕ) (begun : Bool) (v c : ℕ) where
-  pub below_digits : c < 48 → false ≡ may_follow limit begun v c
-  below_digits h =
-      let none : is_digit c ≡ false = rw (lt-leb 48 c h) in
-      sym (no_digit limit begun v c none)
-
-  pub above_digits : 57 < c → false ≡ may_follow limit begun v c
-  above_digits h =
-      let none : is_digit c ≡ false = rw (lt-leb c 57 h, and-false (leb 48 c)) in
-      sym (no_digit limit begun v c none)
-
-  pub above_limit : limit < 10 * v + (c - 48) → false ≡ may_follow limit begun v c
-  unfolding may_follow
-  above_limit h = rw (lt-leb (10 * v + (c - 48)) limit h, and-false (is_digit c))
-
-  module _ (low : 48 ≤ c) (high : c ≤ 57) (fits : 10 * v + (c - 48) ≤ limit) where
-    pub first_digit : begun ≡ false → true ≡ may_follow limit begun v c
-    unfolding may_follow
-    first_digit e = rw (is_digit_lem c low high, le-leb (10 * v + (c - 48)) limit fits, e)
-
-    pub later_digit : begun ≡ true → not (eqb v 0) ≡ may_follow limit begun v c
-    unfolding may_follow
-    later_digit e = rw (is_digit_lem c low high, le-leb (10 * v + (c - 48)) limit fits, e)
-
   pub told_follows : {r : Bool} → r ≡ may_follow limit begun v c → r ≡ true → Follows limit begun v c
   told_follows {r} e n = follows limit begun v c (sym e ∙ n)
 
   pub told_digit : {r : Bool} → r ≡ may_follow limit begun v c → r ≡ true → (48 ≤ c) × (c ≤ 57)
   told_digit e n = digit_range c (told_follows e n).digit
+
+-- ---- what is scanned, as it is told
+
+pub scan_told : (n v : ℕ) (s : Scanned) → record { count = n; value = v } ≡ s → then_some (not (eqb n 0)) (n, v) ≡ taken s
+unfolding taken
+scan_told n v s e = rw (← e) (by (eqb n 0))
+  where
+    by : (t : Bool) → then_some (not t) (n, v) ≡ cond {A = Option (ℕ × ℕ)} t None (Some (n, v))
+    by true = refl
+    by false = refl
 
 -- ---- a loop that scans digits
 

@@ -4,7 +4,7 @@ use Rattle.lists.specs.Lists.{every}
 use Rattle.text.specs.Ascii.{ascii}
 use Rattle.text.specs.Decimal.{is_digit, decimal}
 use Rattle.sentence.specs.Patterns.{place_mark, lead_mark, has}
-use Rattle.sentence.specs.Sentences.{Row}
+use Rattle.sentence.specs.Sentences.{Row, number}
 
 unfoldable pub is_mark : ℕ → Bool
 is_mark c = eqb c place_mark || eqb c lead_mark
@@ -27,7 +27,7 @@ is_printable c = leb 32 c && leb c 126
 
 -- `Refusal 8: `
 unfoldable pub heading : ℕ → List ℕ
-heading number = ascii "Refusal " ++ decimal number ++ ascii ": "
+heading n = ascii "Refusal " ++ decimal n ++ ascii ": "
 
 unfoldable pub begins_with : List ℕ → List ℕ → Bool
 begins_with [] text = true
@@ -36,7 +36,7 @@ begins_with (x ∷ xs) (c ∷ cs) = eqb x c && begins_with xs cs
 
 -- a row shows its number and its place, in printable ASCII
 unfoldable pub is_row : Row → Bool
-is_row r = is_pattern r.pattern && has place_mark r.pattern && every is_printable r.pattern && begins_with (heading r.number) r.pattern
+is_row r = is_pattern r.pattern && has place_mark r.pattern && every is_printable r.pattern && begins_with (heading (number r)) r.pattern
 
 -- ---- two rows
 
@@ -49,7 +49,7 @@ part (p ∷ ps) (q ∷ qs) = not (is_mark p) && not (is_mark q) && (not (eqb p q
 -- a row's number is none of theirs, and its pattern parts from theirs
 unfoldable pub is_apart : Row → List Row → Bool
 is_apart r [] = true
-is_apart r (s ∷ ss) = not (eqb r.number s.number) && part r.pattern s.pattern && is_apart r ss
+is_apart r (s ∷ ss) = not (eqb (number r) (number s)) && part r.pattern s.pattern && is_apart r ss
 
 -- ---- the list
 

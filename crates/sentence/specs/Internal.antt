@@ -1,21 +1,24 @@
--- What only private contracts need: the list as the bytes of a table, and writing by a pattern.
-use Rattle.std.specs.Prelude.{cond, not, List, [], ◌∷◌, ◌++◌, ℕ, ltb, length, Ok, Err}
-use Rattle.refusal.specs.Refused.{Answered, refused_at}
-use Rattle.sentence.specs.Patterns.{filled, shows}
-use Rattle.sentence.specs.Sentences.{Row}
-use Rattle.sentence.specs.Writing.{text_into}
+-- What only private contracts need: rows as the code has them, and what a piece and a match are told as.
+use Rattle.std.specs.Prelude.{◌≡◌, false, cond, Option, Some, None, Result, Ok, Err, List, ℕ, map, eqb}
+use Rattle.std.specs.Borrow.{Bor}
 use Rattle.refusal.specs.declared.Reason.{Reason}
+use Rattle.sentence.specs.Patterns.{is_empty}
+use Rattle.sentence.specs.Sentences.{Row, pattern_in}
+use Rattle.sentence.specs.Reading.{Scanned, Match}
 
--- each row is its number, the length of its pattern, and its pattern
-unfoldable pub flat : List Row → List ℕ
-flat [] = []
-flat (r ∷ rs) = r.number ∷ (length r.pattern ∷ (r.pattern ++ flat rs))
+-- the rows of a table of the code
+abbrev pub listed : List (Reason × Bor (List ℕ)) → List Row
+listed table = map (λ r. record { reason = r.0; pattern = r.1.now }) table
 
-unfoldable pub write_pattern : List ℕ → ℕ → ℕ → ℕ → Answered ℕ
-write_pattern pattern place lead room =
-    cond (not (shows pattern place lead)) (Err (refused_at Reason.Sentence 0))
-    (cond (ltb room (length (filled place lead pattern))) (Err (refused_at Reason.Room 0))
-    (Ok (length (filled place lead pattern))))
+-- a row of the number has the pattern
+pub record IsPatternOf (n : ℕ) (rows : List Row) (pattern : List ℕ) : Type 0 where
+  pub same : pattern ≡ pattern_in rows n
+  pub some : is_empty pattern ≡ false
 
-unfoldable pub pattern_into : List ℕ → ℕ → ℕ → List ℕ → List ℕ
-pattern_into pattern place lead out = text_into (write_pattern pattern place lead (length out)) (filled place lead pattern) out
+-- the bytes that are taken, if there are any, and the number in them
+unfoldable pub taken : Scanned → Option (ℕ × ℕ)
+taken s = cond (eqb s.count 0) None (Some (s.count, s.value))
+
+-- place and lead of a whole sentence, or how many bytes agree with one
+unfoldable pub told : Match → Result (ℕ × ℕ) ℕ
+told m = cond m.whole (Ok (m.place, m.lead)) (Err m.shared)

@@ -1,15 +1,18 @@
 -- What reading a sentence answers: bytes are matched with the pattern of each row. What this means is the law `Reading` of `sentence_laws`.
 use Rattle.std.specs.Prelude.{Bool, true, false, cond, not, ◌&&◌, List, [], ◌∷◌, ℕ, suc, ◌+◌, ◌-◌, ◌*◌, max, leb, eqb, drop, Ok, Err}
 use Rattle.text.specs.Decimal.{is_digit}
+use Rattle.refusal.specs.declared.Reason.{Reason}
 use Rattle.refusal.specs.declared.Refusal.{Refusal}
 use Rattle.refusal.specs.Refused.{Answered, refused_at}
-use Rattle.sentence.specs.declared.matching.Scanned.{Scanned}
-use Rattle.sentence.specs.declared.matching.Match.{Match}
 use Rattle.sentence.specs.Patterns.{place_mark, lead_mark, most_place, most_lead, is_empty}
 use Rattle.sentence.specs.Sentences.{Row, sentences}
-use Rattle.refusal.specs.declared.Reason.{Reason}
 
 -- ---- a number at the front of bytes
+
+-- how many bytes, and their number
+pub record Scanned : Type 0 where
+  pub count : ℕ
+  pub value : ℕ
 
 -- c is one more digit of a number up to limit, of which v is read if it is begun: nothing follows a 0 in front
 unfoldable pub may_follow : ℕ → Bool → ℕ → ℕ → Bool
@@ -39,6 +42,13 @@ piece p bytes =
 
 -- ---- a pattern
 
+-- how many bytes agree with a sentence of it, whether they are the whole of one, and the place and the lead in them
+pub record Match : Type 0 where
+  pub shared : ℕ
+  pub whole : Bool
+  pub place : ℕ
+  pub lead : ℕ
+
 abbrev pub no_match : Match
 no_match = record { shared = 0; whole = false; place = 0; lead = 0 }
 
@@ -54,7 +64,6 @@ joined p s m = record {
 unfoldable pub with_piece : ℕ → Scanned → Match → Match
 with_piece p s m = cond (eqb s.count 0) no_match (joined p s m)
 
--- how many bytes agree with a sentence of the pattern, whether they are the whole of one, and its place and lead
 unfoldable pub matched : List ℕ → List ℕ → Match
 matched [] bytes = record { shared = 0; whole = is_empty bytes; place = 0; lead = 0 }
 matched (p ∷ ps) bytes = with_piece p (piece p bytes) (matched ps (drop (piece p bytes).count bytes))
@@ -63,7 +72,7 @@ matched (p ∷ ps) bytes = with_piece p (piece p bytes) (matched ps (drop (piece
 
 -- the refusal that bytes are of, where they are a whole sentence of a row
 abbrev pub found : Row → List ℕ → Refusal
-found r bytes = record { number = r.number; place = (matched r.pattern bytes).place; lead = (matched r.pattern bytes).lead }
+found r bytes = record { reason = r.reason; place = (matched r.pattern bytes).place; lead = (matched r.pattern bytes).lead }
 
 -- the refusal of the first row that bytes are a sentence of; else 20 at the longest beginning, where rows before share best bytes
 unfoldable pub read_from : List Row → ℕ → List ℕ → Answered Refusal

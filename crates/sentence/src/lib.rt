@@ -5,7 +5,7 @@ ghost use Rattle.std.specs.Prelude.{◌≡◌, length};
 ghost use Rattle.sentence.specs.Reading.{read_sentence};
 ghost use Rattle.sentence.specs.Writing.{write_sentence, sentence_into};
 
-use refusal::Refusal;
+use refusal::{Reason, Refusal};
 
 pub mod laws;
 mod matching;
@@ -22,33 +22,25 @@ const MOST_PLACE: u32 = 65535;
 
 const MOST_LEAD: u32 = 960;
 
-// What bytes are read as: the refusal that the sentence came from, or 20.
-#[derive(Clone, Copy)]
-pub enum Read {
-    Sentence(Refusal),
-    Refused(Refusal),
-}
-
-// The length of the sentence written, or the refusal: 20 or 9.
-#[derive(Clone, Copy)]
-pub enum Written {
-    Length(usize),
-    Refused(Refusal),
-}
-
+// The refusal that the sentence came from, or 20.
 pub fn read_sentence(bytes: &[u8]) -> Result<Refusal, Refusal>
     ensures { result ≡ read_sentence bytes.now }
 {
-    let rows = rows::table();
-    rows::read(&rows, bytes)
+    rows::read(rows::table(), bytes)
 }
 
-// The sentence of a refusal, put at the front of out. Its number may be any of 32 bits.
-pub fn write_sentence(number: u32, place: usize, lead: u32, out: &mut [u8]) -> Result<usize, Refusal>
-    ensures answer { result ≡ write_sentence (record { number = number; place = place; lead = lead }) (length out.old) }
-    ensures output { out.new ≡ sentence_into (record { number = number; place = place; lead = lead }) out.old }
+// The sentence of a refusal, put at the front of out, and its length; or 20 or 9. The number may be any of 32 bits.
+pub fn write_sentence(
+    number: u32,
+    place: usize,
+    lead: u32,
+    out: &mut [u8],
+) -> Result<usize, Refusal>
+    ensures answer { result ≡ write_sentence number place lead (length out.old) }
+    ensures output { out.new ≡ sentence_into number place lead out.old }
 {
-    let rows = rows::table();
-    let pattern = rows::pattern_of(&rows, number);
+    let Some(pattern) = rows::pattern_of(rows::table(), number) else {
+        return Err(Refusal::at(Reason::Sentence, 0));
+    };
     writing::write(pattern, place, lead, out)
 }

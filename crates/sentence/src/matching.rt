@@ -1,121 +1,72 @@
 // Bytes matched with a pattern.
-ghost use Rattle.std.specs.Prelude.{◌≡◌, true, false, cond, ◌≤◌};
+ghost use Rattle.std.specs.Prelude.{◌≡◌, true, false, ◌≤◌};
 ghost use Rattle.sentence.specs.Condition.{is_pattern};
 ghost use Rattle.sentence.specs.Reading.{may_follow, scan_from, piece, matched};
+ghost use Rattle.sentence.specs.Internal.{taken, told};
 
 use super::{LEAD_MARK, MOST_LEAD, MOST_PLACE, PLACE_MARK};
 
-// Digits at the front, and their value.
-#[derive(Clone, Copy)]
-pub struct Scanned {
-    pub count: usize,
-    pub value: u32,
-}
-
-// How many bytes agree with a sentence of a pattern, whether they are the whole of one, and its place and lead.
-#[derive(Clone, Copy)]
-pub struct Match {
-    pub shared: usize,
-    pub whole: bool,
-    pub place: u32,
-    pub lead: u32,
-}
-
-// Each byte of the pattern takes its bytes, and then none is left.
-pub fn match_pattern(pattern: &[u8], bytes: &[u8]) -> Match
+// The place and the lead of a sentence of the pattern, if bytes are one; else how many bytes agree with one. Each byte of the pattern takes
+// its bytes, and then none is left.
+pub fn match_pattern(pattern: &[u8], bytes: &[u8]) -> Result<(usize, u32), usize>
     requires { is_pattern pattern.now ≡ true }
-    ensures { result ≡ matched pattern.now bytes.now }
+    ensures { result ≡ told (matched pattern.now bytes.now) }
 {
-    let mut at: usize = 0;
-    let mut place: u32 = 0;
-    let mut lead: u32 = 0;
-    let mut i: usize = 0;
-    while i < pattern.len() {
-        let p = pattern[i];
-        let taken = take_piece(p, &bytes[at..]);
-        if taken.count == 0 {
-            return Match {
-                shared: at,
-                whole: false,
-                place,
-                lead,
-            };
+    let mut at = 0;
+    let mut place = 0;
+    let mut lead = 0;
+    for &p in pattern {
+        let Some((count, value)) = take_piece(p, &bytes[at..]) else {
+            return Err(at);
+        };
+        match p {
+            PLACE_MARK => place = value as usize,
+            LEAD_MARK => lead = value,
+            _ => {}
         }
-        place = pick(p == PLACE_MARK, taken.value, place);
-        lead = pick(p == LEAD_MARK, taken.value, lead);
-        at += taken.count;
-        i += 1;
+        at += count;
     }
-    Match {
-        shared: at,
-        whole: at == bytes.len(),
-        place,
-        lead,
+    if at == bytes.len() {
+        Ok((place, lead))
+    } else {
+        Err(at)
     }
 }
 
-// The bytes at the front that one byte of a pattern takes.
-fn take_piece(p: u8, bytes: &[u8]) -> Scanned
-    ensures { result ≡ piece p bytes.now }
+// How many bytes at the front one byte of a pattern takes, if any, and the number in them.
+fn take_piece(p: u8, bytes: &[u8]) -> Option<(usize, u32)>
+    ensures { result ≡ taken (piece p bytes.now) }
 {
-    if p == PLACE_MARK {
-        return scan(MOST_PLACE, bytes);
-    }
-    if p == LEAD_MARK {
-        return scan(MOST_LEAD, bytes);
-    }
-    if bytes.len() == 0 {
-        return Scanned { count: 0, value: 0 };
-    }
-    Scanned {
-        count: (bytes[0] == p) as usize,
-        value: 0,
+    match (p, bytes) {
+        (PLACE_MARK, _) => scan(MOST_PLACE, bytes),
+        (LEAD_MARK, _) => scan(MOST_LEAD, bytes),
+        (_, [c, ..]) => (*c == p).then_some((1, 0)),
+        (_, []) => None,
     }
 }
 
-// The number at the front, up to limit, in decimal with no 0 before another digit.
-fn scan(limit: u32, bytes: &[u8]) -> Scanned
+// The digits at the front, if there are any, and their value, up to limit: in decimal with no 0 before another digit.
+fn scan(limit: u32, bytes: &[u8]) -> Option<(usize, u32)>
     requires { limit ≤ 65535 }
-    ensures { result ≡ scan_from limit false 0 bytes.now }
+    ensures { result ≡ taken (scan_from limit false 0 bytes.now) }
 {
-    let mut count: usize = 0;
-    let mut value: u32 = 0;
-    while count < bytes.len() {
-        let c = bytes[count];
+    let mut count = 0;
+    let mut value = 0;
+    for &c in bytes {
         if !may_follow(limit, 0 < count, value, c) {
-            return Scanned { count, value };
+            break;
         }
-        value = 10 * value + (c - b'0') as u32;
+        value = 10 * value + u32::from(c - b'0');
         count += 1;
     }
-    Scanned { count, value }
+    (count != 0).then_some((count, value))
 }
 
 // Whether c is one more digit of the number of which value is read.
+#[tactic(auto, unfolding(crate::specs::Reading::may_follow))]
 fn may_follow(limit: u32, begun: bool, value: u32, c: u8) -> bool
     requires { value ≤ 65535 }
     ensures { result ≡ may_follow limit begun value c }
 {
-    if c < b'0' {
-        return false;
-    }
-    if b'9' < c {
-        return false;
-    }
-    if limit < 10 * value + (c - b'0') as u32 {
-        return false;
-    }
-    if begun {
-        return value != 0;
-    }
-    true
-}
-
-fn pick(first: bool, a: u32, b: u32) -> u32
-    ensures { result ≡ cond first a b }
-{
-    if first {
-        return a;
-    }
-    b
+    c.is_ascii_digit() && 10 * value + u32::from(c - b'0') <= limit && !(begun && value == 0)
 }

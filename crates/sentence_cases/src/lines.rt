@@ -9,23 +9,33 @@ const ROOM: usize = 128;
 const SHORT: usize = 41;
 
 fn refused(rt: &impl Print, refusal: Refusal) -> io::Result<()> {
+    print!(rt; "refused ")?;
+    told(rt, refusal)
+}
+
+fn told(rt: &impl Print, refusal: Refusal) -> io::Result<()> {
     let Refusal {
-        number,
+        reason,
         place,
         lead,
     } = refusal;
-    print!(rt; "refused {number} place {place} lead {lead}")
+    let number = reason.number();
+    print!(rt; "{number} place {place} lead {lead}")
 }
 
 fn asked(rt: &impl Print, number: u32, place: usize, lead: u32) -> io::Result<()> {
     print!(rt; "write {number} place {place} lead {lead}")
 }
 
-fn told(rt: &impl Print, answer: Result<usize, Refusal>, out: &[u8]) -> io::Result<()> {
-    match answer {
-        Ok(n) => {
-            rt.write_all(&out[..n.min(out.len())])?;
-        }
+fn written(
+    rt: &impl Print,
+    number: u32,
+    place: usize,
+    lead: u32,
+    out: &mut [u8],
+) -> io::Result<()> {
+    match sentence::write_sentence(number, place, lead, out) {
+        Ok(length) => rt.write_all(&out[..length.min(out.len())])?,
         Err(refusal) => refused(rt, refusal)?,
     }
     println!(rt; "")
@@ -34,17 +44,13 @@ fn told(rt: &impl Print, answer: Result<usize, Refusal>, out: &[u8]) -> io::Resu
 pub fn write(rt: &impl Print, number: u32, place: usize, lead: u32) -> io::Result<()> {
     asked(rt, number, place, lead)?;
     print!(rt; ": ")?;
-    let mut out = [b'.'; ROOM];
-    let answer = sentence::write_sentence(number, place, lead, &mut out);
-    told(rt, answer, &out)
+    written(rt, number, place, lead, &mut [b'.'; ROOM])
 }
 
 pub fn write_short(rt: &impl Print, number: u32, place: usize, lead: u32) -> io::Result<()> {
     asked(rt, number, place, lead)?;
     print!(rt; " into {SHORT} bytes: ")?;
-    let mut out = [b'.'; SHORT];
-    let answer = sentence::write_sentence(number, place, lead, &mut out);
-    told(rt, answer, &out)
+    written(rt, number, place, lead, &mut [b'.'; SHORT])
 }
 
 pub fn read(rt: &impl Print, bytes: &[u8]) -> io::Result<()> {
@@ -53,12 +59,8 @@ pub fn read(rt: &impl Print, bytes: &[u8]) -> io::Result<()> {
     print!(rt; "': ")?;
     match sentence::read_sentence(bytes) {
         Ok(refusal) => {
-            let Refusal {
-                number,
-                place,
-                lead,
-            } = refusal;
-            print!(rt; "number {number} place {place} lead {lead}")?;
+            print!(rt; "number ")?;
+            told(rt, refusal)?;
         }
         Err(refusal) => refused(rt, refusal)?,
     }

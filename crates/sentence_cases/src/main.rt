@@ -55,26 +55,26 @@ fn read_input(rt: &impl Print, input: &mut impl Read) -> io::Result<()> {
     read_lines(rt, &buffer[..count])
 }
 
-// Fills the buffer as far as the input goes: how many bytes it has then. A read may give fewer bytes than there is room for, so it goes on by
-// as many as came.
+// Fills the buffer as far as the input goes: how many bytes it has then.
 fn read_front(input: &mut impl Read, buffer: &mut [u8; 4096]) -> io::Result<usize>
     ensures { IfOk result (λ count. count ≤ 4096) }
 {
-    let mut count: usize = 0;
-    while count < 4096 {
+    let mut count = 0;
+    while count < buffer.len() {
         let more = input.read(&mut buffer[count..])?;
         if more == 0 {
-            return Ok(count);
+            break;
         }
         count += more;
     }
     Ok(count)
 }
 
+// Each line ends in a line feed.
 fn read_lines(rt: &impl Print, bytes: &[u8]) -> io::Result<()> {
-    for line in bytes.split_inclusive(|byte| *byte == b'\n') {
-        if let Some(sentence) = line.strip_suffix(b"\n") {
-            lines::read(rt, sentence)?;
+    for piece in bytes.split_inclusive(|&b| b == b'\n') {
+        if let Some(line) = piece.strip_suffix(b"\n") {
+            lines::read(rt, line)?;
         }
     }
     Ok(())

@@ -7,12 +7,11 @@ use Prim.Native.Nat.{ℕ, ◌≤◌, max}
 use native.Mathlib.Decide.{dec_le}
 use native.Mathlib.Omega.{arith}
 use Rattle.refusal.specs.declared.Refusal.{Refusal}
-use Rattle.refusal.specs.Refused.{refused_at}
-use Rattle.sentence.specs.declared.matching.Match.{Match}
+use Rattle.refusal.specs.Refused.{number_of, refused_at}
 use Rattle.sentence.specs.Patterns.{most_lead}
 use Rattle.sentence.specs.Sentences.{Row, pattern_in, sentence_in}
 use Rattle.sentence.specs.Condition.{are_sound}
-use Rattle.sentence.specs.Reading.{matched, found, read_from}
+use Rattle.sentence.specs.Reading.{Match, matched, found, read_from}
 use Rattle.sentence.proofs.Soundness.{First, first}
 use Rattle.sentence.proofs.RowCases.{read_here, read_later}
 use Rattle.sentence_laws.proofs.Shared.{shared}
@@ -28,7 +27,7 @@ Reached rows bytes n = (x : Refusal) × Known rows x × (shared bytes (sentence_
 
 -- q's place is the longest beginning, or best if that is longer
 pub record Farthest (rows : List Row) (best : ℕ) (bytes : List ℕ) (q : Refusal) : Type 0 where
-  pub number : q.number ≡ 20
+  pub reason : q.reason ≡ Reason.Sentence
   pub lead : q.lead ≡ 0
   pub least : best ≤ q.place
   pub most : (x : Refusal) → Known rows x → shared bytes (sentence_in rows x) ≤ q.place
@@ -41,10 +40,10 @@ module _ (r : Row) (rs : List Row) (f : First r rs) (best : ℕ) (bytes : List �
   m = matched r.pattern bytes
 
   -- a sentence of the row agrees with no more bytes than the match says, and that of what is found with so many
-  own_most : (x : Refusal) → Known (r ∷ rs) x → pattern_in (r ∷ rs) x.number ≡ r.pattern → shared bytes (sentence_in (r ∷ rs) x) ≤ m.shared
+  own_most : (x : Refusal) → Known (r ∷ rs) x → pattern_in (r ∷ rs) (number_of x.reason) ≡ r.pattern → shared bytes (sentence_in (r ∷ rs) x) ≤ m.shared
   unfolding sentence_in
   own_most x k same =
-      let small : x.lead ≤ most_lead = lead_small (pattern_in (r ∷ rs) x.number) x.lead k.lead in
+      let small : x.lead ≤ most_lead = lead_small (pattern_in (r ∷ rs) (number_of x.reason)) x.lead k.lead in
       rw same (match_most x.place x.lead k.place small r.pattern f.row.pattern bytes)
 
   own_reached : shared bytes (sentence_in (r ∷ rs) (found r bytes)) ≡ m.shared
@@ -52,7 +51,7 @@ module _ (r : Row) (rs : List Row) (f : First r rs) (best : ℕ) (bytes : List �
 
   one_more : Farthest rs (max best m.shared) bytes q → Farthest (r ∷ rs) best bytes q
   one_more g = record {
-    number = g.number;
+    reason = g.reason;
     lead = g.lead;
     least = omega (arith, g.least);
     most = λ x k. bound x k (known_where r rs x k);
@@ -75,7 +74,7 @@ pub refused_farthest : (rows : List Row) → are_sound rows ≡ true → (best :
 unfolding read_from
 refused_farthest [] e best bytes q h =
     let same : refused_at Reason.Sentence best ≡ q = cc in
-    rw (← same) (record { number = refl; lead = refl; least = omega arith; most = λ x k. absurd (none_known x k); reached = inl refl })
+    rw (← same) (record { reason = refl; lead = refl; least = omega arith; most = λ x k. absurd (none_known x k); reached = inl refl })
 refused_farthest (r ∷ rs) e best bytes q h = by m.whole refl (refused_farthest rs f.rest (max best m.shared) bytes q)
   where
     f : First r rs

@@ -8,7 +8,6 @@ use borrow.Author.Tests.{eqb-true, ne_eqb, not-true}
 use lib.Dec.{eqb}
 use lib.ListN.{length}
 use Rattle.text.specs.Decimal.{is_digit, decimal}
-use Rattle.sentence.specs.declared.matching.Match.{Match}
 use Rattle.sentence.specs.Patterns.{place_mark, lead_mark, piece_text, filled, has}
 use Rattle.sentence.specs.Condition.{is_mark, ends_number}
 use Rattle.sentence.proofs.Pieces.{Kind, kind}
@@ -16,6 +15,7 @@ use Rattle.sentence.proofs.Marks.{Pattern, or_parts}
 use Rattle.sentence_laws.proofs.Leading.{front}
 use Rattle.sentence_laws.proofs.Scanning.{plain}
 use Rattle.sentence_laws.proofs.PieceTexts.{Ends}
+use Rattle.sentence.specs.Reading.{Match}
 
 -- ---- marks
 

@@ -12,6 +12,7 @@ use Rattle.text.specs.Decimal.{is_digit, decimal}
 use Rattle.text.proofs.Digits.{digit_range}
 use Rattle.text.proofs.ReadBack.{numbers}
 use Rattle.refusal.specs.declared.Refusal.{Refusal}
+use Rattle.refusal.specs.Refused.{number_of}
 use Rattle.sentence.specs.Patterns.{place_mark, lead_mark, piece_text, filled}
 use Rattle.sentence.specs.Sentences.{sentences, pattern_in, sentence_in, is_known, sentence_of}
 use Rattle.sentence.specs.Condition.{is_printable, heading, begins_with}
@@ -98,23 +99,23 @@ begins_split (x ∷ xs) (y ∷ ys) e =
 
 -- ---- the sentences
 
-own_row : (r : Refusal) → is_known r ≡ true → IsRow (record { number = r.number; pattern = pattern_in sentences r.number })
+own_row : (r : Refusal) → is_known r ≡ true → IsRow (number_of r.reason) (pattern_in sentences (number_of r.reason))
 unfolding is_known
-own_row r k = row_of sentences r.number sound (known sentences r k).some
+own_row r k = row_of sentences (number_of r.reason) sound (known sentences r k).some
 
-begins : (r : Refusal) → is_known r ≡ true → (words : List ℕ) × (sentence_of r ≡ heading r.number ++ words)
+begins : (r : Refusal) → is_known r ≡ true → (words : List ℕ) × (sentence_of r ≡ heading (number_of r.reason) ++ words)
 unfolding sentence_of sentence_in
 begins r k =
-    let (words, same) = begins_split (heading r.number) (pattern_in sentences r.number) (own_row r k).begins in (
+    let (words, same) = begins_split (heading (number_of r.reason)) (pattern_in sentences (number_of r.reason)) (own_row r k).begins in (
       filled r.place r.lead words,
       ap (filled r.place r.lead) same
-          ∙ filled_append r.place r.lead (heading r.number) words
-          ∙ ap (λ (t : List ℕ). t ++ filled r.place r.lead words) (filled_heading r.place r.lead r.number),
+          ∙ filled_append r.place r.lead (heading (number_of r.reason)) words
+          ∙ ap (λ (t : List ℕ). t ++ filled r.place r.lead words) (filled_heading r.place r.lead (number_of r.reason)),
     )
 
 printable : (r : Refusal) → is_known r ≡ true → every is_printable (sentence_of r) ≡ true
 unfolding sentence_of sentence_in
-printable r k = filled_printable r.place r.lead (pattern_in sentences r.number) (own_row r k).printable
+printable r k = filled_printable r.place r.lead (pattern_in sentences (number_of r.reason)) (own_row r k).printable
 
 pub form : Form
 form = record { begins = begins; printable = printable }

@@ -6,10 +6,8 @@ use Prim.Native.Nat.{ℕ, ◌≤◌}
 use native.Mathlib.Omega.{arith}
 use lib.Dec.{eqb}
 use lib.ListN.{drop}
-use Rattle.sentence.specs.declared.matching.Scanned.{Scanned}
-use Rattle.sentence.specs.declared.matching.Match.{Match}
 use Rattle.sentence.specs.Patterns.{place_mark, lead_mark, most_place, most_lead, has, most_lead_of}
-use Rattle.sentence.specs.Reading.{piece, no_match, joined, with_piece, matched}
+use Rattle.sentence.specs.Reading.{Scanned, Match, piece, no_match, joined, with_piece, matched}
 use Rattle.sentence.proofs.Marks.{match_no_lead}
 use Rattle.sentence_laws.proofs.PieceTexts.{piece_place, piece_lead}
 

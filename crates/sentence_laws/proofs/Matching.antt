@@ -7,11 +7,9 @@ use native.Mathlib.Omega.{arith}
 use lib.Dec.{eqb}
 use lib.ListN.{length, take, drop, length-append, take-append-drop}
 use lib.Seq.{length-take-le, drop-append_seam}
-use Rattle.sentence.specs.declared.matching.Scanned.{Scanned}
-use Rattle.sentence.specs.declared.matching.Match.{Match}
 use Rattle.sentence.specs.Patterns.{place_mark, lead_mark, most_place, most_lead, piece_text, filled, is_empty, has}
 use Rattle.sentence.specs.Condition.{is_pattern}
-use Rattle.sentence.specs.Reading.{piece, no_match, joined, with_piece, matched}
+use Rattle.sentence.specs.Reading.{Scanned, Match, piece, no_match, joined, with_piece, matched}
 use Rattle.sentence.proofs.Pieces.{Kind, kind, piece_inside}
 use Rattle.sentence.proofs.Marks.{Pattern, pattern}
 use Rattle.sentence_laws.proofs.Shared.{shared, shared_nothing, shared_after}

@@ -11,8 +11,7 @@ use lib.ListN.{length, take, drop}
 use Rattle.text.specs.Decimal.{value_from, decimal}
 use Rattle.text.proofs.Digits.{digit_range}
 use Rattle.text.proofs.Decimals.{decimal_small}
-use Rattle.sentence.specs.declared.matching.Scanned.{Scanned}
-use Rattle.sentence.specs.Reading.{may_follow, one_more, scan_from}
+use Rattle.sentence.specs.Reading.{Scanned, may_follow, one_more, scan_from}
 use Rattle.sentence.proofs.Following.{Follows, follows, may_follow_lem}
 use Rattle.sentence_laws.proofs.Leading.{value_grows, first_value, Front, first_digit, after_digits, front_value, front}
 use Rattle.sentence_laws.proofs.Shared.{shared}

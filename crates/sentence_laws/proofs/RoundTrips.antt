@@ -1,41 +1,77 @@
 -- A sentence that was written is read back.
 use mathlib.Core.Path.{◌≡◌, refl, ◌∙◌, ap}
 use mathlib.Core.Bool.{Bool, true, false, cond, not}
-use mathlib.Core.List.{List}
+use mathlib.Core.List.{List, [], ◌∷◌}
 use Prim.Native.Nat.{ℕ}
-use native.Mathlib.Omega.{arith}
-use lib.Dec.{ltb}
+use borrow.Author.Tests.{eqb-true}
+use Rattle.std.proofs.Common.{Ok, Err}
+use lib.Dec.{ltb, eqb}
 use lib.ListN.{length, take}
 use Rattle.lists.proofs.Fronts.{take_over}
-use Rattle.refusal.specs.declared.Refusal.{Refusal}
-use Rattle.refusal.specs.Refused.{Answered, refused_at}
-use Rattle.sentence.specs.Sentences.{is_known, sentence_of}
-use Rattle.sentence.specs.Reading.{read_sentence}
-use Rattle.sentence.specs.Writing.{write_sentence, text_into, sentence_into}
-use Rattle.sentence_laws.specs.Laws.{RoundTrip}
-use Rattle.sentence_laws.proofs.Sentences.{back}
-use Rattle.std.proofs.Common.{Ok, Err}
 use Rattle.refusal.specs.declared.Reason.{Reason}
+use Rattle.refusal.specs.declared.Refusal.{Refusal}
+use Rattle.refusal.specs.Refused.{Answered, number_of, refused_at}
+use Rattle.sentence.specs.Patterns.{filled, is_empty, shows}
+use Rattle.sentence.specs.Sentences.{Row, number, sentences, pattern_in, is_known_in, sentence_in, is_known, sentence_of}
+use Rattle.sentence.specs.Reading.{read_sentence}
+use Rattle.sentence.specs.Writing.{write_pattern, text_into, pattern_into, write_sentence, sentence_into}
+use Rattle.sentence_laws.specs.Laws.{RoundTrip}
+use Rattle.sentence_laws.proofs.KnownRows.{shown}
+use Rattle.sentence_laws.proofs.Sentences.{back}
 
--- a length is answered only for a known refusal, and it is the text's
+-- a number that has a row is that of a reason
+reason_in : (rows : List Row) (n : ℕ) → is_empty (pattern_in rows n) ≡ false → (reason : Reason) × (number_of reason ≡ n)
+unfolding pattern_in is_empty
+reason_in [] n e = absurd cc
+reason_in (r ∷ rs) n e = by (eqb (number r) n) refl e (reason_in rs n)
+  where
+    by : (t : Bool) → eqb (number r) n ≡ t → is_empty (cond t r.pattern (pattern_in rs n)) ≡ false
+        → (is_empty (pattern_in rs n) ≡ false → (reason : Reason) × (number_of reason ≡ n)) → (reason : Reason) × (number_of reason ≡ n)
+    by true f g later = (r.reason, eqb-true (number r) n f)
+    by false f g later = later g
+
+-- a length is answered only where the pattern shows place and lead, and it is the text's
 written_known : (text : List ℕ) (n : ℕ) (known short : Bool)
     → cond (not known) (Err (refused_at Reason.Sentence 0)) (cond short (Err (refused_at Reason.Room 0)) (Ok (length text))) ≡ Ok n
     → (known ≡ true) × (length text ≡ n)
-written_known text n true true e = let z : ◌≡◌ {A = ℕ} 0 1 = cc in absurd (omega arith)
+written_known text n true true e = absurd cc
 written_known text n true false e = (refl, cc)
-written_known text n false short e = let z : ◌≡◌ {A = ℕ} 0 1 = cc in absurd (omega arith)
+written_known text n false short e = absurd cc
 
-module _ (r : Refusal) (out : List ℕ) (n : ℕ) (e : write_sentence r (length out) ≡ Ok n) where
-  known_length : (is_known r ≡ true) × (length (sentence_of r) ≡ n)
-  unfolding write_sentence
-  known_length = written_known (sentence_of r) n (is_known r) (ltb (length out) (length (sentence_of r))) e
+module _ (n place lead : ℕ) (out : List ℕ) (size : ℕ) (e : write_sentence n place lead (length out) ≡ Ok size) where
+  abbrev pattern : List ℕ
+  pattern = pattern_in sentences n
 
-  written_text : take n (sentence_into r out) ≡ sentence_of r
-  unfolding sentence_into text_into
-  written_text = ap (λ (a : Answered ℕ). take n (text_into a (sentence_of r) out)) e ∙ take_over (sentence_of r) out n known_length.1
+  abbrev text : List ℕ
+  text = filled place lead pattern
 
-  written_back : read_sentence (take n (sentence_into r out)) ≡ Ok r
-  written_back = ap read_sentence written_text ∙ back r known_length.0
+  known_length : (shows pattern place lead ≡ true) × (length text ≡ size)
+  unfolding write_sentence write_pattern
+  known_length = written_known text size (shows pattern place lead) (ltb (length out) (length text)) e
+
+  written_text : take size (sentence_into n place lead out) ≡ text
+  unfolding write_sentence sentence_into pattern_into text_into
+  written_text = ap (λ (a : Answered ℕ). take size (text_into a text out)) e ∙ take_over text out size known_length.1
+
+  module _ (reason : Reason) (numbered : number_of reason ≡ n) where
+    abbrev r : Refusal
+    r = record { reason = reason; place = place; lead = lead }
+
+    is_known_here : is_known r ≡ true
+    unfolding is_known is_known_in
+    is_known_here = rw numbered known_length.0
+
+    own_text : text ≡ sentence_of r
+    unfolding sentence_of sentence_in
+    own_text = rw numbered
+
+    read_back : read_sentence (take size (sentence_into n place lead out)) ≡ Ok r
+    read_back = ap read_sentence (written_text ∙ own_text) ∙ back r is_known_here
+
+  written_back : (reason : Reason) × (number_of reason ≡ n)
+      × (read_sentence (take size (sentence_into n place lead out)) ≡ Ok (record { reason = reason; place = place; lead = lead }))
+  written_back =
+      let (reason, numbered) = reason_in sentences n (shown pattern place lead known_length.0).some in (reason, numbered, read_back reason numbered)
 
 pub round_trip : RoundTrip
 round_trip = record { back = written_back }

@@ -10,8 +10,7 @@ use lib.Dec.{eqb}
 use lib.ListN.{length, take, drop}
 use Rattle.lists.specs.Lists.{every}
 use Rattle.text.specs.Decimal.{is_digit, value_from, decimal}
-use Rattle.sentence.specs.declared.matching.Scanned.{Scanned}
-use Rattle.sentence.specs.Reading.{may_follow, one_more, scan_from}
+use Rattle.sentence.specs.Reading.{Scanned, may_follow, one_more, scan_from}
 use Rattle.sentence.proofs.Following.{Follows, follows, may_follow_lem, no_digit}
 use Rattle.sentence_laws.proofs.Leading.{value_grows, decimal_digit}
 use Rattle.sentence_laws.proofs.Shared.{shared}

@@ -78,18 +78,18 @@ read_none bytes q e =
     let f = refused_farthest sentences sound 0 bytes q e in
     record {
       none = λ r s. (let z : ◌≡◌ {A = ℕ} 0 1 = cc (known_read bytes r s) in omega arith);
-      number = f.number;
+      reason = f.reason;
       place = longest bytes q f;
       lead = f.lead;
     }
 
 refused_once : (bytes : List ℕ) (p q : Refusal) → IsNone bytes p → IsNone bytes q → p ≡ q
 refused_once bytes p q f g =
-    let number : p.number ≡ q.number = f.number ∙ sym g.number in
+    let reason : p.reason ≡ q.reason = f.reason ∙ sym g.reason in
     let place : p.place ≡ q.place =
     omega (arith, none_longer bytes p.place q.place f.place g.place, none_longer bytes q.place p.place g.place f.place) in
     let lead : p.lead ≡ q.lead = f.lead ∙ sym g.lead in
-    rw (number, place, lead)
+    rw (reason, place, lead)
 
 meant : (bytes : List ℕ) → Means bytes (read_sentence bytes)
 meant bytes = by (read_sentence bytes) refl

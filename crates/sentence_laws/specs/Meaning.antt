@@ -1,9 +1,10 @@
 -- What bytes are read as, said without a computation. "Any sentence of the list" is that of every known refusal: every number of the list with
 -- every place and lead in range.
 use Rattle.std.specs.Prelude.{true, List, ◌≡◌, ℕ, ◌≤◌, length, take, Ok, Err}
+use Rattle.refusal.specs.declared.Reason.{Reason}
 use Rattle.refusal.specs.declared.Refusal.{Refusal}
-use Rattle.sentence.specs.Sentences.{is_known, sentence_of}
 use Rattle.refusal.specs.Refused.{Answered}
+use Rattle.sentence.specs.Sentences.{is_known, sentence_of}
 
 -- the first n bytes of one text are the first n of the other
 pub record Share (n : ℕ) (x y : List ℕ) : Type 0 where
@@ -24,7 +25,7 @@ pub record IsSentence (bytes : List ℕ) (r : Refusal) : Type 0 where
 -- bytes that are no sentence, and what they are refused with
 pub record IsNone (bytes : List ℕ) (q : Refusal) : Type 0 where
   pub none : (r : Refusal) → IsSentence bytes r → ⊥
-  pub number : q.number ≡ 20
+  pub reason : q.reason ≡ Reason.Sentence
   pub place : Longest bytes q.place
   pub lead : q.lead ≡ 0
 

@@ -1,44 +1,61 @@
 -- Before each turn the bytes of the pattern that are passed took the bytes that are passed.
-use Prim.Native.Nat.{◌+◌}
-use native.Mathlib.Omega.{arith}
-use Rattle.sentence.proofs.MatchCases.{Passed, passed_none, match_end, match_stops, match_more}
+use Rattle.std.proofs.Common.{◌≡◌, refl, sym, ◌∙◌, ◌+◌, cond, eqb, get_or, arith}
+use Rattle.sentence.specs.Patterns.{place_mark, lead_mark}
+use Rattle.sentence.proofs.MatchCases.{Passed, passed_none, told_piece, told_none, marked, unmarked, elsewhere, match_whole, match_part, match_stops, match_more}
 use Rattle.sentence.proofs.matching.match_pattern.Goals as goal
+use Rattle.sentence.proofs.matching.match_pattern.Goals.{Joined-p, in-35, in-37, in_default-p}
 
-pub loop-i-init : goal.loop-i-init
-loop-i-init c = let s = c.before.before in (omega arith, passed_none s.args.pattern.now s.args.bytes.now s.requires)
+pub loop-p-init : goal.loop-p-init
+loop-p-init c = passed_none c.args.pattern.now c.args.bytes.now c.requires
 
 pub slice_bounds-take_piece-count : goal.slice_bounds-take_piece-count
-slice_bounds-take_piece-count c = c.loop-i.invariant.1.inside
+slice_bounds-take_piece-count c = c.loop-p.invariant.inside
 
 pub slice_bounds-take_piece-start : goal.slice_bounds-take_piece-start
 slice_bounds-take_piece-start c = slice_bounds-take_piece-count c
 
-pub returns-then-taken-eq0 : goal.returns-then-taken-eq0
-returns-then-taken-eq0 c =
-    let l = c.loop-i in
-    let a = c.args in
-    let taken = c.take_piece-taken in
-    match_stops a.pattern.now a.bytes.now l.i l.at l.place l.lead l.invariant.1 (omega arith) taken.result taken.ensures c.if-taken-eq0.true
+pub returns-in_default : goal.returns-in_default
+returns-in_default c =
+    let l = c.loop-p in
+    match_stops c.args.pattern.now c.args.bytes.now l.p-index l.at l.place l.lead l.invariant c.loop-p-test.true _ refl
+    (told_none _ (sym c.in_default.is ∙ c.take_piece.ensures))
+
+-- the place and the lead with what this byte of the pattern told
+now_place : (c : Joined-p) → c.match-p.place ≡ cond (eqb (get_or c.args.pattern.now c.loop-p.p-index 0) place_mark) c.in-Some.value c.loop-p.place
+now_place c = elim c.match-p.branch [
+  | in-35 w ↦ w.place-is ∙ marked _ place_mark _ _ w.in-35.is
+  | in-37 w ↦ w.place-is ∙ elsewhere _ place_mark lead_mark _ _ w.in-37.is refl
+  | in_default-p w ↦ w.place-is ∙ unmarked (get_or c.args.pattern.now c.loop-p.p-index 0) place_mark _ _ (omega arith)
+]
+
+now_lead : (c : Joined-p) → c.match-p.lead ≡ cond (eqb (get_or c.args.pattern.now c.loop-p.p-index 0) lead_mark) c.in-Some.value c.loop-p.lead
+now_lead c = elim c.match-p.branch [
+  | in-35 w ↦ w.lead-is ∙ elsewhere _ lead_mark place_mark _ _ w.in-35.is refl
+  | in-37 w ↦ w.lead-is ∙ marked _ lead_mark _ _ w.in-37.is
+  | in_default-p w ↦ w.lead-is ∙ unmarked (get_or c.args.pattern.now c.loop-p.p-index 0) lead_mark _ _ (omega arith)
+]
 
 -- the bytes of the pattern that are passed with this one
-more : (c : goal.After-struct_known-in-loop-i-1) → let l = c.loop-i in let a = c.args in
-    Passed a.pattern.now a.bytes.now (l.i + 1) (l.at + c.take_piece-taken.result.count) c.pick-place.result c.pick-lead.result
+more : (c : Joined-p) → let l = c.loop-p in
+    Passed c.args.pattern.now c.args.bytes.now (l.p-index + 1) (l.at + c.in-Some.count) c.match-p.place c.match-p.lead
 more c =
-    let l = c.loop-i in
-    let a = c.args in
-    let taken = c.take_piece-taken in
-    rw (c.pick-place.ensures, c.pick-lead.ensures)
-    (match_more a.pattern.now a.bytes.now l.i l.at l.place l.lead l.invariant.1 (omega arith) taken.result taken.ensures
-    c.if-taken-eq0.false)
+    let l = c.loop-p in
+    let taken = told_piece _ c.in-Some.count c.in-Some.value (sym c.in-Some.is ∙ c.take_piece.ensures) in
+    rw (now_place c, now_lead c)
+    (match_more c.args.pattern.now c.args.bytes.now l.p-index l.at l.place l.lead l.invariant c.loop-p-test.true _ taken.0 taken.1)
 
 pub overflow_add-at : goal.overflow_add-at
 overflow_add-at c = omega (arith, (more c).inside)
 
-pub loop-i-preserved : goal.loop-i-preserved
-loop-i-preserved c = (omega arith, more c)
+pub loop-p-preserved : goal.loop-p-preserved
+loop-p-preserved c = more c
 
-pub returns : goal.returns
-returns c =
-    let l = c.loop-i in
-    let a = c.args in
-    match_end a.pattern.now a.bytes.now l.i l.at l.place l.lead l.invariant.1 (omega arith)
+pub returns-then-at-bytes : goal.returns-then-at-bytes
+returns-then-at-bytes c =
+    let l = c.loop-p in
+    match_whole c.args.pattern.now c.args.bytes.now l.p-index l.at l.place l.lead l.invariant (omega arith) c.if-at-bytes.true
+
+pub returns-else-at-bytes : goal.returns-else-at-bytes
+returns-else-at-bytes c =
+    let l = c.loop-p in
+    match_part c.args.pattern.now c.args.bytes.now l.p-index l.at l.place l.lead l.invariant (omega arith) c.if-at-bytes.false

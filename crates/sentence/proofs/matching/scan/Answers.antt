@@ -1,38 +1,36 @@
 -- Before each turn the bytes passed are digits of the value.
-use native.Mathlib.Omega.{arith}
-use Rattle.sentence.proofs.ScanCases.{told_follows, told_digit, scans_none, scans_all, scans_stop, scans_more}
+use Rattle.std.proofs.Common.{refl, ◌∙◌, ap, ◌+◌, arith}
+use Rattle.sentence.proofs.ScanCases.{told_follows, told_digit, scan_told, scans_none, scans_all, scans_stop, scans_more}
 use Rattle.sentence.proofs.matching.scan.Goals as goal
+use Rattle.sentence.proofs.matching.scan.Goals.{else-loop-c-test, then-loop-c-test+then-not-may_follow}
 
-pub loop-count-init : goal.loop-count-init
-loop-count-init c = (omega arith, omega arith, scans_none c.args.limit c.args.bytes.now)
+pub loop-c-init : goal.loop-c-init
+loop-c-init c = (refl, omega arith, scans_none c.args.limit c.args.bytes.now)
 
-pub returns-then-not-may_follow : goal.returns-then-not-may_follow
-returns-then-not-may_follow c =
-    let l = c.loop-count in
-    let a = c.args in
-    scans_stop a.limit a.bytes.now l.count l.value (omega arith) l.invariant.2 c.may_follow.ensures c.if-not-may_follow.true
-
-pub overflow_sub-value : goal.overflow_sub-value
-overflow_sub-value c = omega (arith, told_digit _ _ _ _ c.may_follow.ensures c.if-not-may_follow.false)
-
-pub overflow_cast-value : goal.overflow_cast-value
-overflow_cast-value c = omega (arith, told_digit _ _ _ _ c.may_follow.ensures c.if-not-may_follow.false)
+pub overflow_sub-c : goal.overflow_sub-c
+overflow_sub-c c = (told_digit _ _ _ _ c.may_follow.ensures c.if-not-may_follow.false).0
 
 pub overflow_add-value : goal.overflow_add-value
-overflow_add-value c = omega (arith, (told_follows _ _ _ _ c.may_follow.ensures c.if-not-may_follow.false).fits)
+overflow_add-value c = omega (arith, c.from.ensures, (told_follows _ _ _ _ c.may_follow.ensures c.if-not-may_follow.false).fits)
 
-pub loop-count-preserved : goal.loop-count-preserved
-loop-count-preserved c =
-    let l = c.loop-count in
-    let a = c.args in
-    let told = c.may_follow.ensures in (
-      omega arith,
-      (told_follows _ _ _ _ told c.if-not-may_follow.false).fits,
-      scans_more a.limit a.bytes.now l.count l.value (omega arith) l.invariant.2 told c.if-not-may_follow.false,
+pub loop-c-preserved : goal.loop-c-preserved
+loop-c-preserved c =
+    let l = c.loop-c in
+    let told = c.may_follow.ensures in
+    let follows = c.if-not-may_follow.false in
+    rw c.from.ensures (
+      ap (λ n. n + 1) l.invariant.0,
+      (told_follows _ _ _ _ told follows).fits,
+      scans_more c.args.limit c.args.bytes.now l.c-index l.value c.loop-c-test.true l.invariant.2 (rw l.invariant.0 at told) follows,
     )
 
 pub returns : goal.returns
 returns c =
-    let l = c.loop-count in
-    let a = c.args in
-    scans_all a.limit a.bytes.now l.count l.value (omega arith) (omega arith) l.invariant.2
+    let l = c.loop-c in
+    let limit = c.args.limit in
+    let bytes = c.args.bytes.now in
+    c.then_some.ensures ∙ scan_told l.count l.value _ (rw l.invariant.0 (elim c.loop-c-test.branch [
+      | else-loop-c-test w ↦ scans_all limit bytes l.c-index l.value w.loop-c-test.false (omega arith) l.invariant.2
+      | then-loop-c-test+then-not-may_follow w ↦
+          scans_stop limit bytes l.c-index l.value w.loop-c-test.true l.invariant.2 (rw l.invariant.0 at w.may_follow.ensures) w.if-not-may_follow.true
+    ]))

@@ -1,25 +1,20 @@
 -- Each answer is one of the cases of a piece.
-use mathlib.Core.Path.{◌∙◌}
-use native.Mathlib.Omega.{arith}
-use Rattle.sentence.proofs.PieceCases.{piece_at_place, piece_at_lead, piece_empty, piece_first}
+use Rattle.std.proofs.Common.{◌∙◌}
+use Rattle.sentence.proofs.PieceCases.{piece_at_place, piece_at_lead, piece_none, piece_first}
 use Rattle.sentence.proofs.matching.take_piece.Goals as goal
 
-pub returns-then-p-eq-PLACE_MARK : goal.returns-then-p-eq-PLACE_MARK
-returns-then-p-eq-PLACE_MARK c =
-    let a = c.args in
-    c.scan.ensures ∙ piece_at_place a.p a.bytes.now c.if-p-eq-PLACE_MARK.true
+pub returns-in-35-default : goal.returns-in-35-default
+returns-in-35-default c = c.scan.ensures ∙ piece_at_place c.args.p c.args.bytes.now c.in-35-default.is-0
 
-pub returns-then-p-eq-LEAD_MARK : goal.returns-then-p-eq-LEAD_MARK
-returns-then-p-eq-LEAD_MARK c =
-    let a = c.args in
-    c.scan-then-p-eq-LEAD_MARK.ensures ∙ piece_at_lead a.p a.bytes.now c.if-p-eq-PLACE_MARK.false c.if-p-eq-LEAD_MARK.true
+pub returns-in-37-default : goal.returns-in-37-default
+returns-in-37-default c = c.scan-in-37-default.ensures ∙ piece_at_lead c.args.p c.args.bytes.now c.in-37-default.is-0
 
-pub returns-then-bytes-eq0 : goal.returns-then-bytes-eq0
-returns-then-bytes-eq0 c =
-    let a = c.args in
-    piece_empty a.p a.bytes.now c.if-p-eq-PLACE_MARK.false c.if-p-eq-LEAD_MARK.false (omega arith)
+pub returns-in_default-empty : goal.returns-in_default-empty
+returns-in_default-empty c =
+    let other = c.in_default-empty.is-0 in
+    piece_none c.args.p c.args.bytes.now other.0.1 other.1 c.in_default-empty.len_below
 
-pub returns : goal.returns
-returns c =
-    let a = c.args in
-    piece_first a.p a.bytes.now c.if-p-eq-PLACE_MARK.false c.if-p-eq-LEAD_MARK.false (omega arith)
+pub returns-in_default-len1-up : goal.returns-in_default-len1-up
+returns-in_default-len1-up c =
+    let other = c.in_default-len1-up.is-0 in
+    c.then_some.ensures ∙ piece_first c.args.p c.args.bytes.now other.0.1 other.1 c.in_default-len1-up.len_at_least

@@ -1,11 +1,10 @@
--- The bytes are those of the list: computed.
-use mathlib.Core.Path.{refl}
+-- The rows are those of the list: computed.
+use Rattle.std.proofs.Common.{refl}
 use Rattle.lists.specs.Lists.{tab}
 use Rattle.text.specs.Ascii.{ascii}
 use Rattle.sentence.specs.Sentences.{row, sentences}
-use Rattle.sentence.specs.Internal.{flat}
 use Rattle.sentence.proofs.rows.table.Goals as goal
 
 pub returns : goal.returns
-unfolding tab ascii row sentences flat
+unfolding tab ascii row sentences
 returns c = refl
