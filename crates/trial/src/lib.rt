@@ -8,6 +8,7 @@ ghost use Rattle.trial.specs.WeightedTried.{WeightedTried};
 
 use block_decoder::GREATEST_WEIGHT;
 use demands::Trial;
+use refusal::Refusal;
 use weighted_demands::WeightedTrial;
 
 mod counts;
