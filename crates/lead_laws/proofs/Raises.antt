@@ -7,6 +7,7 @@ use Prim.Native.Nat.{ℕ, ◌*◌, ◌<◌, ◌≤◌, ◌^◌}
 use native.Mathlib.Decide.{ℕ_discrete, dec_lt}
 use native.Mathlib.Omega.{arith}
 use lib.ListN.{length}
+use Rattle.refusal.specs.declared.Reason.{Reason}
 use Rattle.refusal.specs.declared.Refusal.{Refusal}
 use Rattle.refusal.specs.Refused.{Answered, refused_at}
 use Rattle.refusal.specs.Checks.{is_lead_at, is_mode}
@@ -32,18 +33,20 @@ pub clear_below : (m m' : ℕ) → m ≤ m' → (characters : List Character) �
     → length characters ≤ first_unclear m characters
 clear_below m m' h characters clear = all_clear m characters (λ q l. omega (arith, clear_lead m' characters clear q l))
 
-pub same_number : {number place : ℕ} {r : Refusal} → Err (refused_at number place) ≡ Err r → number ≡ r.number
-same_number e = cc
+pub same_reason : {reason : Reason} {place : ℕ} {r : Refusal} → ◌≡◌ {A = Answered ℕ} (Err (refused_at reason place)) (Err r) → reason ≡ r.reason
+same_reason {reason} {place} {r} e =
+    let same : refused_at reason place ≡ r = cc in
+    ap (λ (x : Refusal). x.reason) same
 
 -- ---- the checks that do not rest on m
 
 module _ (N b : ℕ) (tones weights : List ℕ) (room : ℕ) where
   -- one of them refuses, at every m
   record Unheard : Type 0 where
-    number : ℕ
+    reason : Reason
     place : ℕ
-    not_unclear : number ≢ 10
-    told : (m : ℕ) → is_lead_at N m ≡ true → heard_block N b m tones weights room ≡ refused number place
+    not_unclear : reason ≢ Reason.Unclear
+    told : (m : ℕ) → is_lead_at N m ≡ true → heard_block N b m tones weights room ≡ refused reason place
 
   -- all are passed
   record Heard : Type 0 where
@@ -54,23 +57,24 @@ module _ (N b : ℕ) (tones weights : List ℕ) (room : ℕ) where
   checked : Unheard ⊎ Heard
   checked = by (is_mode b) refl (ℕ_discrete (length tones) 64) (ℕ_discrete (length weights) 64) (dec_lt room b) (dec_lt (first_bad_tone (2 ^ b) tones) 64) (dec_lt (first_bad_weight N weights) 64)
     where
-      unheard : (number place : ℕ) → number ≢ 10 → ((m : ℕ) → is_lead_at N m ≡ true → heard_block N b m tones weights room ≡ refused number place) → Unheard ⊎ Heard
-      unheard number place n f = inl (record { number = number; place = place; not_unclear = n; told = f })
+      unheard : (reason : Reason) (place : ℕ) → reason ≢ Reason.Unclear
+          → ((m : ℕ) → is_lead_at N m ≡ true → heard_block N b m tones weights room ≡ refused reason place) → Unheard ⊎ Heard
+      unheard reason place n f = inl (record { reason = reason; place = place; not_unclear = n; told = f })
 
       by : (s : Bool) → is_mode b ≡ s → Dec (length tones ≡ 64) → Dec (length weights ≡ 64) → Dec (room < b) → Dec (first_bad_tone (2 ^ b) tones < 64)
           → Dec (first_bad_weight N weights < 64) → Unheard ⊎ Heard
-      by false e n w r t v = unheard 1 0 (λ z. omega arith) (λ m f. refuses_mode N b m tones weights room e)
-      by true e (no n) w r t v = unheard 7 0 (λ z. omega arith) (λ m f. refuses_count N b m tones weights room e f n)
-      by true e (yes n) (no w) r t v = unheard 7 0 (λ z. omega arith) (λ m f. refuses_weights N b m tones weights room e f n w)
-      by true e (yes n) (yes w) (yes r) t v = unheard 9 0 (λ z. omega arith) (λ m f. refuses_room N b m tones weights room e f n w r)
+      by false e n w r t v = unheard Reason.Mode 0 (λ z. absurd cc) (λ m f. refuses_mode N b m tones weights room e)
+      by true e (no n) w r t v = unheard Reason.ToneCount 0 (λ z. absurd cc) (λ m f. refuses_count N b m tones weights room e f n)
+      by true e (yes n) (no w) r t v = unheard Reason.ToneCount 0 (λ z. absurd cc) (λ m f. refuses_weights N b m tones weights room e f n w)
+      by true e (yes n) (yes w) (yes r) t v = unheard Reason.Room 0 (λ z. absurd cc) (λ m f. refuses_room N b m tones weights room e f n w r)
       by true e (yes n) (yes w) (no r) t v = in_range t v
         where
           passed : (m : ℕ) → is_lead_at N m ≡ true → Passed N b m (length tones) (length weights) room
           passed m f = record { mode = e; lead = f; count = n; weighed = w; fits = omega arith }
 
           in_range : Dec (first_bad_tone (2 ^ b) tones < 64) → Dec (first_bad_weight N weights < 64) → Unheard ⊎ Heard
-          in_range (yes t) v = unheard 8 _ (λ z. omega arith) (λ m f. refuses_tone N b m tones weights room (passed m f) t)
-          in_range (no t) (yes v) = unheard 14 _ (λ z. omega arith) (λ m f. refuses_weight N b m tones weights room (passed m f) (omega arith) v)
+          in_range (yes t) v = unheard Reason.Tone _ (λ z. absurd cc) (λ m f. refuses_tone N b m tones weights room (passed m f) t)
+          in_range (no t) (yes v) = unheard Reason.Weight _ (λ z. absurd cc) (λ m f. refuses_weight N b m tones weights room (passed m f) (omega arith) v)
           in_range (no t) (no v) = inr (record {
             passed = passed;
             has_tones = in_range_tones b tones n (omega arith);
@@ -102,7 +106,7 @@ module _ (N b m m' : ℕ) (tones weights out : List ℕ) where
     unfolding refused
     raised_unheard r =
         raised_same (r.told m' f' ∙ sym (r.told m f))
-        (λ u. r.not_unclear (same_number (sym (ap (λ (d : BlockDecoded). d.answer) (r.told m f)) ∙ u.refused)))
+        (λ u. r.not_unclear (same_reason (sym (ap (λ (d : BlockDecoded). d.answer) (r.told m f)) ∙ u.refused)))
 
     raised_heard : m ≤ m' → Heard N b tones weights (length out) → Raised N b m m' tones weights out
     raised_heard h r = by (dec_lt (first_unclear m' characters) b)

@@ -1,4 +1,4 @@
 pub mod Tallies
-pub mod Damages
+pub mod SentTones
 pub mod Trials
 pub mod WeightedTrials

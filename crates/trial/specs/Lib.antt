@@ -1,3 +1,2 @@
 pub mod Tried
 pub mod WeightedTried
-pub mod Internal

@@ -2,7 +2,6 @@
 #![tactic(auto)]
 
 ghost use Rattle.std.specs.Prelude.{◌≡◌};
-ghost use Rattle.block_encoder.specs.Encoding.{count_sent};
 ghost use Rattle.trial.specs.Tried.{Tried};
 ghost use Rattle.trial.specs.WeightedTried.{WeightedTried};
 
@@ -26,10 +25,10 @@ pub fn run(
     ensures { Tried mode least_lead text.now heard.now result tones.old tones.new one.old one.new two.old two.new }
 {
     let encoded = block_encoder::encode_block(mode, text, tones);
-    let sent = sent_count(encoded);
-    let replaced = counts::replaced_in(&tones[..sent], heard);
+    let sent = &tones[..encoded.unwrap_or(0)];
+    let replaced = counts::replaced_in(sent, heard);
     let missing = counts::missing_in(heard);
-    let first = block_decoder::decode_block(mode, least_lead, &tones[..sent], one);
+    let first = block_decoder::decode_block(mode, least_lead, sent, one);
     let second = block_decoder::decode_block(mode, least_lead, heard, two);
     Trial {
         encoded,
@@ -54,24 +53,15 @@ pub fn run_weighted(
     ensures { WeightedTried mode least_lead text.now heard.now weights.now result tones.old tones.new one.old one.new two.old two.new }
 {
     let encoded = block_encoder::encode_block(mode, text, tones);
-    let sent = sent_count(encoded);
-    let damage = weighing::damage_in(&tones[..sent], heard, weights);
+    let sent = &tones[..encoded.unwrap_or(0)];
+    let damage = weighing::damage_in(sent, heard, weights);
     let full = [GREATEST_WEIGHT; 64];
-    let first = block_decoder::decode_weighted(mode, least_lead, &tones[..sent], &full, one);
+    let first = block_decoder::decode_weighted(mode, least_lead, sent, &full, one);
     let second = block_decoder::decode_weighted(mode, least_lead, heard, weights, two);
     WeightedTrial {
         encoded,
         first,
         second,
         damage,
-    }
-}
-
-fn sent_count(encoded: Result<usize, Refusal>) -> usize
-    ensures { result ≡ count_sent encoded }
-{
-    match encoded {
-        Ok(count) => count,
-        Err(_) => 0,
     }
 }

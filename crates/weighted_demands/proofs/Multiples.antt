@@ -15,6 +15,7 @@ use Rattle.lists.proofs.Fronts.{over_map}
 use Rattle.lists.proofs.Places.{first_ext}
 use Rattle.lists.proofs.Sums.{sum_ext}
 use Rattle.lists.proofs.Tables.{tab_ext, tab_map}
+use Rattle.refusal.specs.declared.Reason.{Reason}
 use Rattle.refusal.specs.Checks.{is_mode, is_lead_at}
 use Rattle.refusal.specs.Refused.{Answered, unclear_at}
 use Rattle.refusal.proofs.Limits.{within_true, below_low, above_high}
@@ -167,28 +168,29 @@ module _ (k : ℕ) (low : 1 ≤ k) where
 
   -- ---- the answer on a block
 
-  refused_times : (number place : ℕ) → refused number place ≡ times_block k (refused number place)
+  refused_times : (reason : Reason) (place : ℕ) → refused reason place ≡ times_block k (refused reason place)
   unfolding refused times_block
-  refused_times number place =
-      λ i. record { answer = Err (record { number = number; place = place; lead = sym (mul-zero k) i }); characters = sym nones_times i }
+  refused_times reason place =
+      λ i. record { answer = Err (record { reason = reason; place = place; lead = sym (mul-zero k) i }); characters = sym nones_times i }
 
   -- one check of the answer
-  check_times : (u : Bool) (number place : ℕ) (x y : BlockDecoded) → x ≡ times_block k y → cond u (refused number place) x ≡ times_block k (cond u (refused number place) y)
-  check_times true number place x y e = refused_times number place
-  check_times false number place x y e = e
+  check_times : (u : Bool) (reason : Reason) (place : ℕ) (x y : BlockDecoded) → x ≡ times_block k y
+      → cond u (refused reason place) x ≡ times_block k (cond u (refused reason place) y)
+  check_times true reason place x y e = refused_times reason place
+  check_times false reason place x y e = e
 
   pub heard_times : (N b m : ℕ) (tones weights : List ℕ) (room : ℕ)
       → heard_block (k * N) b (k * m) tones (times_weights k weights) room ≡ times_block k (heard_block N b m tones weights room)
   unfolding heard_block
   heard_times N b m tones weights room =
       rw (limit_times N m, length-map weights (λ (w : ℕ). k * w), bad_weight_times N weights)
-      (check_times (not (is_mode b)) 1 0 _ _
-      (check_times (not (is_lead_at N m)) 2 0 _ _
-      (check_times (not (eqb (length tones) 64)) 7 0 _ _
-      (check_times (not (eqb (length weights) 64)) 7 0 _ _
-      (check_times (ltb room b) 9 0 _ _
-      (check_times (ltb (first_bad_tone (2 ^ b) tones) 64) 8 (first_bad_tone (2 ^ b) tones) _ _
-      (check_times (ltb (first_bad_weight N weights) 64) 14 (first_bad_weight N weights) _ _
+      (check_times (not (is_mode b)) Reason.Mode 0 _ _
+      (check_times (not (is_lead_at N m)) Reason.LeastLead 0 _ _
+      (check_times (not (eqb (length tones) 64)) Reason.ToneCount 0 _ _
+      (check_times (not (eqb (length weights) 64)) Reason.ToneCount 0 _ _
+      (check_times (ltb room b) Reason.Room 0 _ _
+      (check_times (ltb (first_bad_tone (2 ^ b) tones) 64) Reason.Tone (first_bad_tone (2 ^ b) tones) _ _
+      (check_times (ltb (first_bad_weight N weights) 64) Reason.Weight (first_bad_weight N weights) _ _
       (ap (judged b (k * m)) (characters_times b tones weights) ∙ judged_times (weighted_of b tones weights) b m))))))))
 
   into_times : (answer : Answered ℕ) (codes out : List ℕ) → heard_into (times_answer k answer) codes out ≡ heard_into answer codes out

@@ -17,7 +17,7 @@ use Rattle.refusal.specs.Refused.{Answered}
 -- an answer whose lead is k times as large
 abbrev pub times_answer : ℕ → Answered ℕ → Answered ℕ
 times_answer k (Ok n) = Ok n
-times_answer k (Err r) = Err (record { number = r.number; place = r.place; lead = k * r.lead })
+times_answer k (Err r) = Err (record { reason = r.reason; place = r.place; lead = k * r.lead })
 
 -- and its characters with it
 unfoldable pub times_block : ℕ → BlockDecoded → BlockDecoded

@@ -2,6 +2,7 @@
 #![tactic(auto)]
 
 use block_decoder::BlockDecoded;
+use refusal::Refusal;
 
 pub mod laws;
 
