@@ -7,7 +7,7 @@ use borrow.Author.Tests.{lt-ltb, le-ltb}
 use lib.ListN.{length}
 use Rattle.lists.specs.Lists.{num}
 use Rattle.refusal.specs.declared.Refusal.{Refusal}
-use Rattle.refusal.specs.Refused.{Answered, refused_at}
+use Rattle.refusal.specs.Refused.{refused_at}
 use Rattle.block_encoder.proofs.CheckCases.{right_encoded}
 use Rattle.sender.specs.Queues.{Queues, new, waiting, ahead, next_depot, oldest, send_answer, sent_by, tones_by}
 use Rattle.sender.specs.Runs.{Call, after, run}
@@ -18,7 +18,7 @@ use Rattle.sender.proofs.Steps.{ahead_ext}
 use Rattle.sender.proofs.Cases.{next_some}
 use Rattle.sender.proofs.Reached.{places_suffice, reached}
 use Rattle.sender.proofs.RightBlocks.{oldest_right}
-use Rattle.std.proofs.Common.{Bool, false, Ok, Err, Option, Some, None}
+use Rattle.std.proofs.Common.{false, Ok, Err, Option, Some, None}
 use Rattle.refusal.specs.declared.Reason.{Reason}
 use Rattle.sender.specs.declared.Served.{Served}
 
@@ -40,17 +40,13 @@ module _ (state tones : List ℕ) where
   unchanged : Unchanged state tones tones state
   unchanged = record { output = refl; state_kept = refl }
 
-  pub short_sent : {r : Refusal} → r ≡ refused_at Reason.Room 0 → length tones < 64
-      → SentFrom state tones (Err r) tones state × SentFromAny state tones (Err r) tones state
+  pub short_sent : {r : Refusal} → r ≡ refused_at Reason.Room 0 → length tones < 64 → SentFrom state tones (Err r) tones state
   unfolding tones_by after sent_by
-  short_sent p h = (
-    record {
-      answered = λ calls k. ap Err p ∙ sym (answers_short (run new calls) (length tones) h);
-      output = λ calls k. refl;
-      left = λ calls k. rw (answers_short (run new calls) (length tones) h) k;
-    },
-    record { short = λ l. ap Err p; only = λ x e. cc; kept = λ e. unchanged; written = λ s e. absurd cc },
-  )
+  short_sent p h = record {
+    answered = λ calls k. ap Err p ∙ sym (answers_short (run new calls) (length tones) h);
+    output = λ calls k. refl;
+    left = λ calls k. rw (answers_short (run new calls) (length tones) h) k;
+  }
 
   module _ (enough : 64 ≤ length tones) where
     -- nothing is sent: of a state of a run because it has none waiting
@@ -65,9 +61,6 @@ module _ (state tones : List ℕ) where
       },
       record { short = λ l. absurd (omega arith); only = λ x e. absurd cc; kept = λ e. unchanged; written = λ s e. absurd cc },
     )
-
-    pub no_state_sent : (length state ≡ 1532 → ⊥) → SentFrom state tones (Ok None) tones state × SentFromAny state tones (Ok None) tones state
-    no_state_sent ne = none_when (λ calls k. absurd (ne k.size))
 
     module _ (calls : List Call) (h : Holds (run new calls) state) where
       turn_held : num state 1531 % 30 ≡ (run new calls).turn

@@ -1,5 +1,4 @@
-use Rattle.std.proofs.Common.{◌≡◌, ◌+◌, max, ◌∙◌, sym, ap, Err, arith}
-use Rattle.sender.specs.Queues.{reserved, one_more}
+use Rattle.std.proofs.Common.{◌∙◌, sym, ap, Err, arith}
 use Rattle.sender.specs.State.{counts_in}
 use Rattle.sender.proofs.Steps.{one_more_reserved}
 use Rattle.sender.proofs.PlaceCases.{refuses_depot, refuses_full, refuses_sum, takes_block}

@@ -1,21 +1,16 @@
-use Rattle.std.proofs.Common.{rules, ◌≡◌, ◌∙◌, sym, ap, ◌≤◌, Ok, Err, IsErrAnd, arith}
+use Rattle.std.proofs.Common.{◌≡◌, sym, ap, ◌≤◌, Ok, Err, IsErrAnd, arith}
 use Rattle.refusal.specs.Refused.{Answered}
 use Rattle.refusal.specs.declared.Refusal.{Refusal}
 use Rattle.refusal.proofs.Limits.{mode_range}
 use Rattle.sender.specs.State.{counts_in}
 use Rattle.sender.proofs.Cases.{Takes, taken_checks}
-use Rattle.sender.proofs.HandingIn.{no_state, refused_in, taken_in}
+use Rattle.sender.proofs.HandingIn.{refused_in, taken_in}
 use Rattle.sender.proofs.lent.hand_in.Goals as goal
 use Rattle.sender.proofs.lent.hand_in.Goals.{In_ok-judge}
 
 as_err : (r : Answered Unit) (x : Refusal) → IsErrAnd r (λ y. y ≡ x) → r ≡ Err x
 as_err (Err y) x h = ap Err h
 as_err (Ok u) x h = absurd h
-
-pub returns-in_default : goal.returns-in_default
-returns-in_default c =
-    let both = no_state _ _ _ c.at.ensures c.in_default.ensures.cases in
-    record { run = both.0; any = both.1 }
 
 pub returns-in_err-judge : goal.returns-in_err-judge
 returns-in_err-judge c =

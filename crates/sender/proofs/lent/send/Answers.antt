@@ -1,22 +1,15 @@
-use Rattle.std.proofs.Common.{◌≡◌, refl, ◌∙◌, sym, ap, ap₂, ℕ, List, ◌+◌, ◌%◌, ◌<◌, arith}
+use Rattle.std.proofs.Common.{◌≡◌, refl, ◌∙◌, sym, ◌%◌, ◌<◌, arith}
 use Rattle.lists.specs.Lists.{num}
 use Rattle.lists.proofs.Found.{found_some, found_none}
 use Rattle.sender.specs.Queues.{ahead}
 use Rattle.sender.specs.State.{counts_in}
 use Rattle.sender.proofs.Cases.{ahead_some}
-use Rattle.sender.proofs.SendingOut.{short_sent, no_state_sent, none_sent, block_sent}
+use Rattle.sender.proofs.SendingOut.{short_sent, none_sent, block_sent}
 use Rattle.sender.proofs.lent.send.Goals as goal
 use Rattle.sender.proofs.lent.send.Goals.{In-Some-ahead}
 
-pub returns-then-tones-lt64 : goal.returns-then-tones-lt64
-returns-then-tones-lt64 c =
-    let both = short_sent _ _ c.at.ensures c.if-tones-lt64.true in
-    record { run = both.0; any = both.1 }
-
-pub returns-in_default : goal.returns-in_default
-returns-in_default c =
-    let both = no_state_sent _ _ c.if-tones-lt64.false c.in_default.ensures.cases in
-    record { run = both.0; any = both.1 }
+pub returns-then-tones-lt64-clause-run : goal.returns-then-tones-lt64-clause-run
+returns-then-tones-lt64-clause-run c = short_sent _ _ c.at.ensures c.if-tones-lt64.true
 
 pub returns-in_default-ahead : goal.returns-in_default-ahead
 returns-in_default-ahead c =

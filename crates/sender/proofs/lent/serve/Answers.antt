@@ -1,7 +1,6 @@
-use Rattle.std.proofs.Common.{◌≡◌, refl, sym, ◌∙◌, ap, ap₂, List, ℕ, ◌+◌, ◌-◌, ◌*◌, ◌<◌, ◌≤◌, length, take, drop, Ok, Some, None, arith}
-use Rattle.lists.specs.Lists.{num}
+use Rattle.std.proofs.Common.{◌≡◌, refl, sym, ◌∙◌, ap, ap₂, List, ℕ, ◌+◌, ◌-◌, ◌*◌, ◌≤◌, length, take, drop, Some, arith}
 use Rattle.lists.proofs.Found.{found_some, found_none}
-use Rattle.block_encoder.specs.Encoding.{encode_block, encoded_into}
+use Rattle.block_encoder.specs.Encoding.{encoded_into}
 use Rattle.block_encoder.proofs.EncodeCases.{tones_kept, tones_written}
 use Rattle.block_encoder.proofs.CheckCases.{encoded_right, right_text}
 use Rattle.sender.specs.Queues.{Block}
@@ -9,18 +8,9 @@ use Rattle.sender.specs.State.{place_in, filled}
 use Rattle.sender.specs.Internal.{place_with}
 use Rattle.sender.specs.declared.Served.{Served}
 use Rattle.sender.proofs.Filled.{part_codes}
-use Rattle.sender.proofs.Serving.{places_fit, place_there, oldest_there}
+use Rattle.sender.proofs.Serving.{place_there, oldest_there}
 use Rattle.sender.proofs.lent.serve.Goals as goal
 use Rattle.sender.proofs.lent.serve.Goals.{After-encode_block}
-
-pub returns-then-count-gt150 : goal.returns-then-count-gt150
-returns-then-count-gt150 c =
-    let a = c.args in
-    record {
-      serves = λ q h some few ok. absurd (omega (arith, places_fit q a.state.now a.depot h c.requires.0 some few));
-      kept = λ e. record { output = refl; state_kept = refl };
-      written = λ s e. absurd cc;
-    }
 
 pub returns-in_err-at : goal.returns-in_err-at
 returns-in_err-at c =
@@ -66,9 +56,6 @@ returns-in_default c =
       kept = λ e. record { output = c.encode_block.ensures.output ∙ tones_kept _ _ _ refused; state_kept = refl };
       written = λ s e. absurd cc;
     }
-
-pub take_out-requires-clause-block : goal.take_out-requires-clause-block
-take_out-requires-clause-block c = (c.requires.0, c.requires.1, c.in_ok-at.ensures.below)
 
 mode_served : {s t : Served} → Some s ≡ Some t → s.mode ≡ t.mode
 mode_served {s} {t} e =

@@ -10,6 +10,3 @@ returns-then-count-lt150 c =
     let put = rw c.from.ensures at c.put.ensures in
     rw c.from-then-count-lt150.ensures
     (record { left = λ q h free fits. stored_holds q a.state.now a.depot b c.put.new.state h put c.requires.0 (omega arith) fits c.requires.2 })
-
-pub returns-else-count-lt150 : goal.returns-else-count-lt150
-returns-else-count-lt150 c = record { left = λ q h free fits. absurd (omega (arith, h.places, c.if-count-lt150.false)) }

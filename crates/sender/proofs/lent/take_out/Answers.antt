@@ -1,4 +1,3 @@
-use Rattle.std.proofs.Common.{arith}
 use Rattle.sender.proofs.Serving.{served_holds}
 use Rattle.sender.proofs.lent.take_out.Goals as goal
 

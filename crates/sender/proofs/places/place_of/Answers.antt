@@ -1,7 +1,7 @@
 use Rattle.std.proofs.Common.{◌≡◌, ◌∙◌, sym, arith, eq-eqb, ne_eqb}
 use Rattle.lists.proofs.Found.{found_at, found_past}
 use Rattle.lists.proofs.Places.{scan_start, scan_hit, scan_miss, scan_end}
-use Rattle.sender.specs.Internal.{is_of, place_with}
+use Rattle.sender.specs.Internal.{place_with}
 use Rattle.sender.proofs.places.place_of.Goals as goal
 
 pub loop-i-init : goal.loop-i-init
