@@ -8,17 +8,18 @@ use Rattle.refusal.specs.Refused.{Answered, refused_at}
 use Rattle.sender.specs.Queues.{Block, Queues, waiting, hand_answer, joined, handed_by, next_depot, oldest, send_answer, served, sent_by}
 use Rattle.sender.specs.Runs.{Call, hand, send, Answer, to_hand, to_send, answer, after}
 use Rattle.sender.proofs.Cases.{Takes, HandCase, hand_case, SendCase, send_case}
-use Rattle.std.proofs.Common.{Ok, Err, Option}
+use Rattle.std.proofs.Common.{Ok, Err, Option, Some, None}
 use Rattle.refusal.specs.declared.Reason.{Reason}
+use Rattle.sender.specs.declared.Served.{Served}
 
 -- a call, its answer and the queues that it leaves
 pub data CallCase (q : Queues) : Call → Answer → Queues → Type 0 where
   not_taken : (depot : ℕ) (b : Block) (r : Refusal) → CallCase q (hand depot b) (to_hand (Err r)) q
-  takes : (depot : ℕ) (b : Block) → Takes (waiting q) depot b → CallCase q (hand depot b) (to_hand (Ok tt)) (joined q depot b)
+  takes : (depot : ℕ) (b : Block) → Takes (waiting q) depot b → CallCase q (hand depot b) (to_hand (Ok (tt {0}))) (joined q depot b)
   not_sent : (tones : List ℕ) (r : Refusal) → CallCase q (send tones) (to_send (Err r)) q
   none : (tones : List ℕ) → ((d : ℕ) → d < 30 → waiting q d ≡ 0) → CallCase q (send tones) (to_send (Ok None)) q
   serves : (tones : List ℕ) → next_depot q < 30 → 0 < waiting q (next_depot q)
-      → CallCase q (send tones) (to_send (BLOCK (next_depot q) (oldest q (next_depot q)).mode)) (served q (next_depot q))
+      → CallCase q (send tones) (to_send (Ok (Some (record { depot = next_depot q; mode = (oldest q (next_depot q)).mode })))) (served q (next_depot q))
 
 module _ (q : Queues) where
   hand_call : (depot : ℕ) (b : Block) (a : Answered Unit) → HandCase (waiting q) depot b a → CallCase q (hand depot b) (to_hand a) (handed_by a q depot b)

@@ -1,10 +1,9 @@
 -- What handing in promises, from the answer by the counts that the bytes hold.
-use mathlib.Core.Path.{◌≡◌, refl, sym, ◌∙◌, ap}
+use mathlib.Core.Path.{◌≡◌, refl, sym, ◌∙◌}
 use mathlib.Core.List.{List}
 use Prim.Native.Nat.{ℕ}
 use native.Mathlib.Omega.{arith}
 use lib.ListN.{length}
-use Rattle.refusal.specs.Refused.{refused_at}
 use Rattle.refusal.specs.declared.Refusal.{Refusal}
 use Rattle.sender.specs.Queues.{Block, Queues, new, waiting, joined, hand_answer, handed_by}
 use Rattle.sender.specs.Runs.{Call, hand, after, run}
@@ -15,18 +14,11 @@ use Rattle.sender.proofs.Steps.{answer_ext, joined_total}
 use Rattle.sender.proofs.Cases.{taken_checks}
 use Rattle.sender.proofs.Reached.{after_sound, places_suffice, reached}
 use Rattle.std.proofs.Common.{Ok, Err}
-use Rattle.refusal.specs.declared.Reason.{Reason}
 
 module _ (state : List ℕ) (depot : ℕ) (b : Block) where
   -- the queues answer as their counts do
   answer_held : (q : Queues) → Holds q state → hand_answer (counts_in state) depot b ≡ hand_answer (waiting q) depot b
   answer_held q h = answer_ext (counts_in state) (waiting q) h.counts depot b
-
-  pub no_state : {r : Refusal} → r ≡ refused_at Reason.Room 0 → (length state ≡ 1532 → ⊥) → HandedIn state depot b (Err r) state × HandedToAny state depot b (Err r) state
-  no_state e ne = (
-    record { answered = λ calls h. absurd (ne h.size); left = λ calls h. absurd (ne h.size) },
-    record { answered = λ size. absurd (ne size); other_size = λ n. ap Err e; kept = λ s p. refl },
-  )
 
   module _ (size : length state ≡ 1532) (r : Refusal) (e : hand_answer (counts_in state) depot b ≡ Err r) where
     pub refused_in : HandedIn state depot b (Err r) state × HandedToAny state depot b (Err r) state
@@ -39,9 +31,9 @@ module _ (state : List ℕ) (depot : ℕ) (b : Block) where
       record { answered = λ n. sym e; other_size = λ ne. absurd (ne size); kept = λ s p. refl },
     )
 
-  module _ (size : length state ≡ 1532) (next : List ℕ) (e : hand_answer (counts_in state) depot b ≡ (Ok tt)) (stored : Stored state depot b next) where
+  module _ (size : length state ≡ 1532) (next : List ℕ) (e : hand_answer (counts_in state) depot b ≡ (Ok (tt {0}))) (stored : Stored state depot b next) where
     module _ (calls : List Call) (h : Holds (run new calls) state) where
-      taken : hand_answer (waiting (run new calls)) depot b ≡ (Ok tt)
+      taken : hand_answer (waiting (run new calls)) depot b ≡ (Ok (tt {0}))
       taken = sym (answer_held (run new calls) h) ∙ e
 
       now_joined : after (run new calls) (hand depot b) ≡ joined (run new calls) depot b
@@ -54,8 +46,8 @@ module _ (state : List ℕ) (depot : ℕ) (b : Block) where
           let fit = rw now_joined at (places_suffice (after (run new calls) (hand depot b)) (after_sound (run new calls) (reached calls) (hand depot b))) in
           rw now_joined (stored.left (run new calls) h (omega (arith, fit, joined_total (run new calls) depot b t.known)) t.right.count)
 
-    pub taken_in : HandedIn state depot b (Ok tt) next × HandedToAny state depot b (Ok tt) next
+    pub taken_in : HandedIn state depot b (Ok (tt {0})) next × HandedToAny state depot b (Ok (tt {0})) next
     taken_in = (
       record { answered = λ calls h. sym (taken calls h); left = taken_left },
-      record { answered = λ n. sym e; other_size = λ ne. absurd (ne size); kept = λ r p. let z : ◌≡◌ {A = ℕ} 0 1 = cc in absurd (omega arith) },
+      record { answered = λ n. sym e; other_size = λ ne. absurd (ne size); kept = λ r p. absurd cc },
     )

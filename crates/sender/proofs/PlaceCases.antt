@@ -24,12 +24,12 @@ module _ (counts : ℕ → ℕ) (depot : ℕ) where
       unfolding place_answer
       refuses_sum h = simp (le-ltb 29 depot l, lt-leb 8 (counts depot) own, lt-ltb 150 (reserved (one_more counts depot)) h)
 
-      pub takes_block : reserved (one_more counts depot) ≤ 150 → place_answer counts depot ≡ (Ok tt)
+      pub takes_block : reserved (one_more counts depot) ≤ 150 → place_answer counts depot ≡ (Ok (tt {0}))
       unfolding place_answer
       takes_block h = simp (le-ltb 29 depot l, lt-leb 8 (counts depot) own, le-ltb 150 (reserved (one_more counts depot)) h)
 
 module _ (counts : ℕ → ℕ) (depot : ℕ) (b : Block) where
-  pub right_answered : check_codes b.mode b.codes ≡ (Ok tt) → hand_answer counts depot b ≡ place_answer counts depot
+  pub right_answered : {u : Unit {0}} → check_codes b.mode b.codes ≡ Ok u → hand_answer counts depot b ≡ place_answer counts depot
   unfolding hand_answer after_check
   right_answered e = rw e
 

@@ -61,10 +61,10 @@ module _ (counts counts' : ℕ → ℕ) (same : (d : ℕ) → d < 30 → counts 
       by : (t : Bool) → ltb 29 depot ≡ t
           → cond t (Err (refused_at Reason.Depot 0))
           (cond (leb 8 (counts depot)) (Err (refused_at Reason.DepotFull depot))
-          (cond (ltb 150 (reserved (one_more counts depot))) (Err (refused_at Reason.AllFull depot)) (Ok tt)))
+          (cond (ltb 150 (reserved (one_more counts depot))) (Err (refused_at Reason.AllFull depot)) (Ok (tt {0}))))
           ≡ cond t (Err (refused_at Reason.Depot 0))
           (cond (leb 8 (counts' depot)) (Err (refused_at Reason.DepotFull depot))
-          (cond (ltb 150 (reserved (one_more counts' depot))) (Err (refused_at Reason.AllFull depot)) (Ok tt)))
+          (cond (ltb 150 (reserved (one_more counts' depot))) (Err (refused_at Reason.AllFull depot)) (Ok (tt {0}))))
       by true e = refl
       by false e = rw (same depot (omega (arith, ltb-false 29 depot e)), reserved_ext (one_more counts depot) (one_more counts' depot) one_more_ext)
 

@@ -1,14 +1,13 @@
 -- What only private contracts need: what the steps of a call do to the bytes.
-use Rattle.std.specs.Prelude.{◌≡◌, Bool, false, List, ℕ, ◌+◌, ◌*◌, ◌<◌, ◌≤◌, eqb, length, Ok, Err, Option}
+use Rattle.std.specs.Prelude.{◌≡◌, Bool, List, ℕ, ◌+◌, ◌*◌, ◌<◌, ◌≤◌, eqb, length, Ok, Option, Some, None}
 use Rattle.lists.specs.Lists.{num}
 use Rattle.lists.specs.Sums.{total}
 use Rattle.lists.specs.Places.{first}
-use Rattle.refusal.specs.declared.Refusal.{Refusal}
 use Rattle.block_encoder.specs.Encoding.{encode_block, encoded_into}
 use Rattle.sender.specs.Queues.{Block, Queues, waiting, oldest, joined, served}
 use Rattle.sender.specs.State.{filled, Holds}
-use Rattle.sender.specs.Sending.{is_block, Unchanged, WritesText}
-use Rattle.refusal.specs.Refused.{Answered}
+use Rattle.sender.specs.Sending.{Unchanged, WritesText}
+use Rattle.sender.specs.declared.Served.{Served}
 
 -- ---- handing in
 
@@ -47,15 +46,14 @@ pub record TakenOut (bytes : List ℕ) (depot at : ℕ) (next : List ℕ) : Type
       → Holds (served q depot) next
 
 -- the oldest block of a depot with one is sent
-pub record Serves (q : Queues) (depot : ℕ) (tones : List ℕ) (answer : Answered (Option Served)) (tones' next : List ℕ) : Type 0 where
-  pub answered : answer ≡ BLOCK depot (oldest q depot).mode
+pub record Serves (q : Queues) (depot : ℕ) (tones : List ℕ) (answer : Option Served) (tones' next : List ℕ) : Type 0 where
+  pub answered : answer ≡ Some (record { depot = depot; mode = (oldest q depot).mode })
   pub output : tones' ≡ encoded_into (oldest q depot).mode (oldest q depot).codes tones
   pub left : Holds (served q depot) next
 
-pub record ServedFrom (bytes : List ℕ) (depot : ℕ) (tones : List ℕ) (answer : Answered (Option Served)) (tones' next : List ℕ) : Type 0 where
+pub record ServedFrom (bytes : List ℕ) (depot : ℕ) (tones : List ℕ) (answer : Option Served) (tones' next : List ℕ) : Type 0 where
   pub serves : (q : Queues) → Holds q bytes → 0 < waiting q depot → total 30 (waiting q) ≤ 150
       → encode_block (oldest q depot).mode (oldest q depot).codes (length tones) ≡ Ok 64
       → Serves q depot tones answer tones' next
-  pub unrefused : (r : Refusal) → answer ≡ Err r → ⊥
-  pub kept : is_block answer ≡ false → Unchanged bytes tones tones' next
-  pub written : (d mode : ℕ) → answer ≡ BLOCK d mode → WritesText mode tones tones'
+  pub kept : answer ≡ None → Unchanged bytes tones tones' next
+  pub written : (s : Served) → answer ≡ Some s → WritesText s.mode tones tones'

@@ -1,11 +1,12 @@
 -- Order 7, "Thirty stations, one transmitter": what waits at each depot, whose turn it is, and what a call answers and leaves.
-use Rattle.std.specs.Prelude.{cond, List, [], ◌∷◌, ◌++◌, ℕ, ◌+◌, ◌%◌, max, ltb, leb, eqb, length, get_or, drop, Ok, Err, Option}
+use Rattle.std.specs.Prelude.{cond, List, [], ◌∷◌, ◌++◌, ℕ, ◌+◌, ◌%◌, max, ltb, leb, eqb, length, get_or, drop, Ok, Err, Option, Some, None}
 use Rattle.lists.specs.Sums.{total}
 use Rattle.lists.specs.Places.{first}
 use Rattle.refusal.specs.Refused.{Answered, refused_at}
 use Rattle.block_encoder.specs.Checking.{check_codes}
 use Rattle.block_encoder.specs.Encoding.{encoded_into}
 use Rattle.refusal.specs.declared.Reason.{Reason}
+use Rattle.sender.specs.declared.Served.{Served}
 
 -- a block as it was handed in
 pub record Block : Type 0 where
@@ -42,7 +43,7 @@ place_answer counts depot =
 
 -- Mode and block checks come first.
 unfoldable pub after_check : Answered Unit → Answered Unit → Answered Unit
-after_check (Ok tt) a = a
+after_check (Ok u) a = a
 after_check (Err r) a = Err r
 
 unfoldable pub hand_answer : (ℕ → ℕ) → ℕ → Block → Answered Unit
@@ -54,7 +55,7 @@ joined q depot b = record { at = λ d. cond (eqb d depot) (q.at d ++ (b ∷ []))
 
 -- the queues after an answer
 unfoldable pub handed_by : Answered Unit → Queues → ℕ → Block → Queues
-handed_by (Ok tt) q depot b = joined q depot b
+handed_by (Ok u) q depot b = joined q depot b
 handed_by (Err r) q depot b = q
 
 -- ---- sending. Check: 9
@@ -69,11 +70,11 @@ next_depot q = (q.turn + ahead q.turn (waiting q)) % 30
 unfoldable pub oldest : Queues → ℕ → Block
 oldest q d = get_or (q.at d) 0 (record { mode = 0; codes = [] })
 
--- the answer for an output of room tones
+-- the answer for an output of room tones: the depot served and the mode of its block, or None if no depot has one
 unfoldable pub send_answer : Queues → ℕ → Answered (Option Served)
 send_answer q room =
     cond (ltb room 64) (Err (refused_at Reason.Room 0))
-    (cond (ltb (ahead q.turn (waiting q)) 30) (BLOCK (next_depot q) (oldest q (next_depot q)).mode)
+    (cond (ltb (ahead q.turn (waiting q)) 30) (Ok (Some (record { depot = next_depot q; mode = (oldest q (next_depot q)).mode })))
     (Ok None))
 
 -- without the oldest block of a depot, which was served last
@@ -82,12 +83,12 @@ served q depot = record { at = λ d. cond (eqb d depot) (drop 1 (q.at d)) (q.at 
 
 -- the queues after an answer
 unfoldable pub sent_by : Answered (Option Served) → Queues → Queues
-sent_by (BLOCK d mode) q = served q d
+sent_by (Ok (Some s)) q = served q s.depot
 sent_by (Ok None) q = q
 sent_by (Err r) q = q
 
 -- the output after an answer: the tones of the depot's oldest block at its front, or as it was
 unfoldable pub tones_by : Answered (Option Served) → Queues → List ℕ → List ℕ
-tones_by (BLOCK d mode) q tones = encoded_into mode (oldest q d).codes tones
+tones_by (Ok (Some s)) q tones = encoded_into s.mode (oldest q s.depot).codes tones
 tones_by (Ok None) q tones = tones
 tones_by (Err r) q tones = tones

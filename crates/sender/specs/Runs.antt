@@ -2,6 +2,7 @@
 use Rattle.std.specs.Prelude.{List, [], ◌∷◌, ℕ, length, Option}
 use Rattle.sender.specs.Queues.{Block, Queues, waiting, hand_answer, handed_by, send_answer, sent_by}
 use Rattle.refusal.specs.Refused.{Answered}
+use Rattle.sender.specs.declared.Served.{Served}
 
 -- a depot hands in a block, or a block is sent into an output
 pub data Call : Type 0 where

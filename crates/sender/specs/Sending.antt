@@ -1,6 +1,6 @@
 -- What the calls promise. Of a state that a run of calls from a new sender has left: answer, output and next state are the model's. Of any other
 -- state the rules leave them open, but for what is said here of every state.
-use Rattle.std.specs.Prelude.{◌≡◌, Bool, true, false, List, ℕ, ◌<◌, length, Ok, Err, Option}
+use Rattle.std.specs.Prelude.{◌≡◌, Bool, true, false, List, ℕ, ◌<◌, length, Ok, Err, Option, Some, None}
 use Rattle.lists.specs.Lists.{over}
 use Rattle.refusal.specs.declared.Refusal.{Refusal}
 use Rattle.refusal.specs.Refused.{Answered, refused_at}
@@ -10,6 +10,7 @@ use Rattle.sender.specs.Queues.{Block, new, waiting, hand_answer, send_answer, t
 use Rattle.sender.specs.Runs.{Call, hand, send, after, run}
 use Rattle.sender.specs.State.{counts_in, Holds}
 use Rattle.refusal.specs.declared.Reason.{Reason}
+use Rattle.sender.specs.declared.Served.{Served}
 
 -- ---- a depot hands in a block: state, answer, next state
 
@@ -34,7 +35,7 @@ pub record SentFrom (state tones : List ℕ) (answer : Answered (Option Served))
 
 -- a block was sent
 unfoldable pub is_block : Answered (Option Served) → Bool
-is_block (BLOCK d mode) = true
+is_block (Ok (Some s)) = true
 is_block (Ok None) = false
 is_block (Err r) = false
 
@@ -55,4 +56,4 @@ pub record SentFromAny (state tones : List ℕ) (answer : Answered (Option Serve
   pub short : length tones < 64 → answer ≡ Err (refused_at Reason.Room 0)
   pub only : (r : Refusal) → answer ≡ Err r → r ≡ refused_at Reason.Room 0
   pub kept : is_block answer ≡ false → Unchanged state tones tones' next
-  pub written : (d mode : ℕ) → answer ≡ BLOCK d mode → WritesText mode tones tones'
+  pub written : (s : Served) → answer ≡ Ok (Some s) → WritesText s.mode tones tones'

@@ -1,38 +1,32 @@
 // What the counts of waiting blocks decide: whether a depot may hand in a block, and which is served next.
-ghost use Rattle.std.specs.Prelude.{◌≡◌, ◌<◌, ◌≤◌, max, length};
+ghost use Rattle.std.specs.Prelude.{◌≡◌, ◌<◌, ◌≤◌, max};
+ghost use Rattle.lists.specs.Found.{found};
 ghost use Rattle.sender.specs.Queues.{reserved, place_answer, hand_answer, ahead};
 ghost use Rattle.sender.specs.State.{counts_in};
 
-use super::COUNTS;
+use super::{COUNTS, SIZE};
 use refusal::{Reason, Refusal};
 
 // The larger of 4 and a depot's waiting blocks.
 fn share(waiting: u8) -> u32
     ensures { (result ≡ max 4 waiting) × (result ≤ 255) }
 {
-    if waiting < 4 {
-        return 4;
-    }
-    waiting as u32
+    u32::from(waiting.max(4))
 }
 
 // The sum of all depots' shares.
-fn reserved(state: &[u8]) -> u32
-    requires { length state.now ≡ 1532 }
+fn reserved(state: &[u8; SIZE]) -> u32
     ensures { (result ≡ reserved (counts_in state.now)) × (result ≤ 7650) }
 {
-    let mut sum: u32 = 0;
-    let mut d: usize = 0;
-    while d < 30 {
+    let mut sum = 0;
+    for d in 0..30 {
         sum += share(state[COUNTS + d]);
-        d += 1;
     }
     sum
 }
 
 // Whether a depot may hand in a block more, which makes its share that of one more.
-fn place(state: &[u8], depot: u32) -> Result<(), Refusal>
-    requires { length state.now ≡ 1532 }
+fn place(state: &[u8; SIZE], depot: u32) -> Result<(), Refusal>
     ensures { result ≡ place_answer (counts_in state.now) depot }
 {
     if 29 < depot {
@@ -50,27 +44,22 @@ fn place(state: &[u8], depot: u32) -> Result<(), Refusal>
 }
 
 // The answer to a block handed in.
-pub fn judge(state: &[u8], depot: u32, mode: u32, codes: &[u8]) -> Result<(), Refusal>
-    requires { length state.now ≡ 1532 }
+pub fn judge(state: &[u8; SIZE], depot: u32, mode: u32, codes: &[u8]) -> Result<(), Refusal>
     ensures { result ≡ hand_answer (counts_in state.now) depot (record { mode = mode; codes = codes.now }) }
 {
-    match block_encoder::check_codes(mode, codes) {
-        Ok(()) => place(state, depot),
-        Err(refusal) => Err(refusal),
-    }
+    block_encoder::check_codes(mode, codes)?;
+    place(state, depot)
 }
 
-// How many depots without a block stand before the first with one, from the turn on; 30 if none has one.
-pub fn ahead(state: &[u8], turn: usize) -> usize
-    requires { (length state.now ≡ 1532) × (turn < 30) }
-    ensures { result ≡ ahead turn (counts_in state.now) }
+// How many depots without a block stand before the first with one, from the turn on, if any has one.
+pub fn ahead(state: &[u8; SIZE], turn: usize) -> Option<usize>
+    requires { turn < 30 }
+    ensures { result ≡ found 30 (ahead turn (counts_in state.now)) }
 {
-    let mut k: usize = 0;
-    while k < 30 {
+    for k in 0..30 {
         if 0 < state[COUNTS + (turn + k) % 30] {
-            return k;
+            return Some(k);
         }
-        k += 1;
     }
-    k
+    None
 }

@@ -4,7 +4,7 @@ ghost use Rattle.sender.specs.State.{counts_in, filled};
 ghost use Rattle.sender.specs.Sending.{HandedIn, HandedToAny, SentFrom, SentFromAny};
 ghost use Rattle.sender.specs.Internal.{Stored, TakenOut, ServedFrom};
 
-use super::{COUNTS, FILLED, SIZE, TURN, counts, places};
+use super::{COUNTS, FILLED, SIZE, Served, TURN, counts, places};
 use refusal::{Reason, Refusal};
 
 // A depot hands in a block.
@@ -12,29 +12,23 @@ pub fn hand_in(state: &mut [u8], depot: u32, mode: u32, codes: &[u8]) -> Result<
     ensures run { HandedIn state.old depot (record { mode = mode; codes = codes.now }) result state.new }
     ensures any { HandedToAny state.old depot (record { mode = mode; codes = codes.now }) result state.new }
 {
-    if state.len() != SIZE {
+    let Some(state) = state.as_mut_array::<SIZE>() else {
         return Err(Refusal::at(Reason::Room, 0));
-    }
-    let answer = counts::judge(state, depot, mode, codes);
-    match answer {
-        Ok(()) => {
-            store(state, depot as u8, mode as u8, codes);
-            Ok(())
-        }
-        Err(refusal) => Err(refusal),
-    }
+    };
+    counts::judge(state, depot, mode, codes)?;
+    store(state, depot as u8, mode as u8, codes);
+    Ok(())
 }
 
 // A block more. No run of calls fills more than the 150 places: a state that says it has as many stays as it is.
-fn store(state: &mut [u8], depot: u8, mode: u8, codes: &[u8])
-    requires { (length state.old ≡ 1532) × (depot < 30) × (counts_in state.old depot < 8) × (length codes.now ≤ 8) }
+fn store(state: &mut [u8; SIZE], depot: u8, mode: u8, codes: &[u8])
+    requires { (depot < 30) × (counts_in state.old depot < 8) × (length codes.now ≤ 8) }
     ensures { Stored state.old depot (record { mode = mode; codes = codes.now }) state.new }
 {
     let count = state[FILLED];
     if count < 150 {
-        places::put(state, count as usize, depot, mode, codes);
-        let own = COUNTS + depot as usize;
-        state[own] = state[own] + 1;
+        places::put(state, usize::from(count), depot, mode, codes);
+        state[COUNTS + usize::from(depot)] += 1;
         state[FILLED] = count + 1;
     }
 }
@@ -47,52 +41,48 @@ pub fn send(state: &mut [u8], tones: &mut [u16]) -> Result<Option<Served>, Refus
     if tones.len() < 64 {
         return Err(Refusal::at(Reason::Room, 0));
     }
-    if state.len() != SIZE {
+    let Some(state) = state.as_mut_array::<SIZE>() else {
         return Ok(None);
-    }
-    let turn = state[TURN] as usize % 30;
-    let ahead = counts::ahead(state, turn);
-    if 30 <= ahead {
+    };
+    let turn = usize::from(state[TURN]) % 30;
+    let Some(ahead) = counts::ahead(state, turn) else {
         return Ok(None);
-    }
-    serve(state, (turn + ahead) % 30, tones)
+    };
+    Ok(serve(state, (turn + ahead) % 30, tones))
 }
 
 // Sends the oldest block of a depot with one. Where a state that no run of calls leaves has no place for it, or one that the encoder refuses,
 // nothing is sent.
-fn serve(state: &mut [u8], depot: usize, tones: &mut [u16]) -> Result<Option<Served>, Refusal>
-    requires { (length state.old ≡ 1532) × (depot < 30) × (0 < counts_in state.old depot) × (64 ≤ length tones.old) }
+fn serve(state: &mut [u8; SIZE], depot: usize, tones: &mut [u16]) -> Option<Served>
+    requires { (depot < 30) × (0 < counts_in state.old depot) × (64 ≤ length tones.old) }
     ensures { ServedFrom state.old depot tones.old result tones.new state.new }
 {
-    let count = state[FILLED] as usize;
+    let count = usize::from(state[FILLED]);
     if 150 < count {
-        return Ok(None);
+        return None;
     }
-    let at = places::place_of(state, count, depot as u8);
-    if count <= at {
-        return Ok(None);
-    }
-    let mode = state[10 * at + 1] as u32;
+    let at = places::place_of(state, count, depot as u8)?;
+    let mode = u32::from(state[10 * at + 1]);
     let from = 10 * at + 2;
     let to = from + places::code_count(mode);
-    match block_encoder::encode_block(mode, &state[from..to], tones) {
-        Ok(_) => {
-            take_out(state, depot, at, count);
-            Sent::Block(depot as u32, mode)
-        }
-        Err(_) => Ok(None),
-    }
+    let Ok(_) = block_encoder::encode_block(mode, &state[from..to], tones) else {
+        return None;
+    };
+    take_out(state, depot, at, count);
+    Some(Served {
+        depot: depot as u32,
+        mode,
+    })
 }
 
 // Without the block of a place, whose depot was served last.
-fn take_out(state: &mut [u8], depot: usize, at: usize, count: usize)
-    requires state { (length state.old ≡ 1532) × (count ≡ filled state.old) × (count ≤ 150) }
+fn take_out(state: &mut [u8; SIZE], depot: usize, at: usize, count: usize)
+    requires state { (count ≡ filled state.old) × (count ≤ 150) }
     requires block { (depot < 30) × (0 < counts_in state.old depot) × (at < count) }
     ensures { TakenOut state.old depot at state.new }
 {
     places::remove(state, at, count);
-    let own = COUNTS + depot;
-    state[own] = state[own] - 1;
+    state[COUNTS + depot] -= 1;
     state[FILLED] = (count - 1) as u8;
     state[TURN] = ((depot + 1) % 30) as u8;
 }

@@ -11,19 +11,11 @@ mod counts;
 pub mod lent;
 mod places;
 
-// The answer to a block handed in.
-#[derive(Clone, Copy)]
-pub enum Handed {
-    Taken,
-    Refused(Refusal),
-}
-
-// The depot served and the mode of its block; or that no depot has a block waiting; or the refusal.
-#[derive(Clone, Copy)]
-pub enum Sent {
-    Block(u32, u32),
-    NoneWaiting,
-    Refused(Refusal),
+// The depot that was served, and the mode of its block.
+#[derive(Clone, Copy, Debug, PartialEq, Eq)]
+pub struct Served {
+    pub depot: u32,
+    pub mode: u32,
 }
 
 // Where the parts of a state begin, after 150 places of 10 bytes: the depots' counts, the count of filled places, and the turn.
@@ -32,26 +24,28 @@ const COUNTS: usize = 1500;
 const FILLED: usize = 1530;
 
 const TURN: usize = 1531;
+
 // The size of a state.
-const SIZE: usize = 1532;
+pub const SIZE: usize = 1532;
 
 // The state of a sender, in bytes. A place is a waiting block's depot, its mode and up to 8 codes. The filled places come first, in the order
 // in which the blocks were handed in. Behind the places stands how many blocks each depot has waiting, how many places are filled, and the
 // depot that the next send looks at first.
+// They are bytes and no struct of places, since olivia.h lends the caller's bytes to the calls, in this layout.
 #[repr(C)]
 #[derive(Clone, Copy)]
 pub struct Sender {
-    pub bytes: [u8; 1532],
+    pub bytes: [u8; SIZE],
 }
 
-// An answer, and the state for the next call.
+// The answer to a block handed in, and the state for the next call.
 #[derive(Clone, Copy)]
 pub struct AfterHandIn {
     pub answer: Result<(), Refusal>,
     pub sender: Sender,
 }
 
-// The same, of a send.
+// The same, of a send: who is served, or None if no depot has a block waiting.
 #[derive(Clone, Copy)]
 pub struct AfterSend {
     pub answer: Result<Option<Served>, Refusal>,
@@ -63,7 +57,7 @@ impl Sender {
     pub fn new() -> Sender
         ensures { Holds new result.bytes }
     {
-        Sender { bytes: [0; 1532] }
+        Sender { bytes: [0; SIZE] }
     }
 
     // A depot hands in a block.

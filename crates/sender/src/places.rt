@@ -1,17 +1,17 @@
 // What the calls do with the places.
-ghost use Rattle.std.specs.Prelude.{◌≡◌, ◌<◌, ◌≤◌, min, length};
+ghost use Rattle.std.specs.Prelude.{◌≡◌, ◌<◌, ◌≤◌, min, length, IfSome};
+ghost use Rattle.lists.specs.Found.{found};
 ghost use Rattle.sender.specs.Internal.{place_with, Put, Removed};
 
+use super::SIZE;
+
 // Writes a block into a place. Codes past the block's stay as they are.
-pub fn put(state: &mut [u8], place: usize, depot: u8, mode: u8, codes: &[u8])
-    requires { (length state.old ≡ 1532) × (place < 150) × (length codes.now ≤ 8) }
+pub fn put(state: &mut [u8; SIZE], place: usize, depot: u8, mode: u8, codes: &[u8])
+    requires { (place < 150) × (length codes.now ≤ 8) }
     ensures { Put state.old place depot (record { mode = mode; codes = codes.now }) state.new }
 {
-    let mut q: usize = 0;
-    while q < codes.len() {
-        state[10 * place + 2 + q] = codes[q];
-        q += 1;
-    }
+    let from = 10 * place + 2;
+    state[from..from + codes.len()].copy_from_slice(codes);
     state[10 * place] = depot;
     state[10 * place + 1] = mode;
 }
@@ -20,35 +20,27 @@ pub fn put(state: &mut [u8], place: usize, depot: u8, mode: u8, codes: &[u8])
 pub fn code_count(mode: u32) -> usize
     ensures { result ≡ min mode 8 }
 {
-    if mode < 8 {
-        return mode as usize;
-    }
-    8
+    mode.min(8) as usize
 }
 
-// The first of the count places with a block of the depot, else count.
-pub fn place_of(state: &[u8], count: usize, depot: u8) -> usize
-    requires { (length state.now ≡ 1532) × (count ≤ 150) }
-    ensures { result ≡ place_with depot state.now count }
+// The first of the count places with a block of the depot, if there is one.
+pub fn place_of(state: &[u8; SIZE], count: usize, depot: u8) -> Option<usize>
+    requires { count ≤ 150 }
+    ensures place { result ≡ found count (place_with depot state.now count) }
+    ensures below { IfSome result (λ at. at < count) }
 {
-    let mut i: usize = 0;
-    while i < count {
+    for i in 0..count {
         if state[10 * i] == depot {
-            return i;
+            return Some(i);
         }
-        i += 1;
     }
-    i
+    None
 }
 
 // Moves the places after one of them up.
-pub fn remove(state: &mut [u8], at: usize, count: usize)
-    requires { (length state.old ≡ 1532) × (at < count) × (count ≤ 150) }
+pub fn remove(state: &mut [u8; SIZE], at: usize, count: usize)
+    requires { (at < count) × (count ≤ 150) }
     ensures { Removed at count state.old state.new }
 {
-    let mut j = 10 * at;
-    while j + 10 < 10 * count {
-        state[j] = state[j + 10];
-        j += 1;
-    }
+    state.copy_within(10 * (at + 1)..10 * count, 10 * at);
 }

@@ -1,5 +1,5 @@
 -- What is counted from the answers to a run of calls, and each depot's blocks in order.
-use Rattle.std.specs.Prelude.{cond, List, [], ◌∷◌, ◌++◌, ℕ, ◌+◌, eqb, Ok, Err}
+use Rattle.std.specs.Prelude.{cond, List, [], ◌∷◌, ◌++◌, ℕ, ◌+◌, eqb, Ok, Err, Some, None}
 use Rattle.sender.specs.Queues.{Block, Queues, oldest}
 use Rattle.sender.specs.Runs.{Call, hand, send, Answer, to_hand, to_send, answer, after}
 
@@ -15,28 +15,28 @@ counted f (a ∷ answers) = f a + counted f answers
 
 -- a block was taken
 unfoldable pub taken : Answer → ℕ
-taken (to_hand (Ok tt)) = 1
+taken (to_hand (Ok u)) = 1
 taken (to_hand (Err r)) = 0
 taken (to_send s) = 0
 
 -- a block was sent
 unfoldable pub sent : Answer → ℕ
 sent (to_hand h) = 0
-sent (to_send (BLOCK d mode)) = 1
+sent (to_send (Ok (Some s))) = 1
 sent (to_send (Ok None)) = 0
 sent (to_send (Err r)) = 0
 
 -- a block of this depot was sent
 unfoldable pub serves : ℕ → Answer → ℕ
 serves depot (to_hand h) = 0
-serves depot (to_send (BLOCK d mode)) = cond (eqb depot d) 1 0
+serves depot (to_send (Ok (Some s))) = cond (eqb depot s.depot) 1 0
 serves depot (to_send (Ok None)) = 0
 serves depot (to_send (Err r)) = 0
 
 -- a send was not refused
 unfoldable pub unrefused : Answer → ℕ
 unrefused (to_hand h) = 0
-unrefused (to_send (BLOCK d mode)) = 1
+unrefused (to_send (Ok (Some s))) = 1
 unrefused (to_send (Ok None)) = 1
 unrefused (to_send (Err r)) = 0
 
@@ -44,7 +44,7 @@ unrefused (to_send (Err r)) = 0
 
 -- the block of this depot that a call with this answer hands in, if it is taken
 unfoldable pub accepted : ℕ → Call → Answer → List Block
-accepted depot (hand d b) (to_hand (Ok tt)) = cond (eqb depot d) (b ∷ []) []
+accepted depot (hand d b) (to_hand (Ok u)) = cond (eqb depot d) (b ∷ []) []
 accepted depot (hand d b) (to_hand (Err r)) = []
 accepted depot (hand d b) (to_send s) = []
 accepted depot (send tones) a = []
@@ -52,7 +52,7 @@ accepted depot (send tones) a = []
 -- the block of this depot that a call with this answer sends, its oldest
 unfoldable pub departed : ℕ → Queues → Answer → List Block
 departed depot q (to_hand h) = []
-departed depot q (to_send (BLOCK d mode)) = cond (eqb depot d) (oldest q d ∷ []) []
+departed depot q (to_send (Ok (Some s))) = cond (eqb depot s.depot) (oldest q s.depot ∷ []) []
 departed depot q (to_send (Ok None)) = []
 departed depot q (to_send (Err r)) = []
 

@@ -1,12 +1,14 @@
 -- The laws of a sender: document 02, order 7. Each is the promise of the function of the same name in src/laws.rt.
 -- They hold from a new sender on, each call getting the state that the last one left; that nothing changes holds of any queues.
-use Rattle.std.specs.Prelude.{List, ◌++◌, ◌≡◌, ℕ, ◌+◌, ◌<◌, ◌≤◌, length, Ok, Err}
+use Rattle.std.specs.Prelude.{List, ◌++◌, ◌≡◌, ℕ, ◌+◌, ◌<◌, ◌≤◌, length, Ok, Err, Some, None}
 use Rattle.lists.specs.Lists.{over}
 use Rattle.lists.specs.Sums.{total}
 use Rattle.refusal.specs.declared.Refusal.{Refusal}
+use Rattle.refusal.specs.Refused.{number_of}
 use Rattle.chain.specs.Chain.{tones_of}
 use Rattle.block_encoder.specs.Encoding.{IsText}
 use Rattle.sender.specs.Queues.{Block, Queues, new, waiting, hand_answer, oldest, send_answer, tones_by}
+use Rattle.sender.specs.declared.Served.{Served}
 use Rattle.sender.specs.Runs.{Call, hand, send, answer, after, run}
 use Rattle.sender_laws.specs.Counting.{answers, counted, taken, sent, serves, unrefused, accepted, departed, all_accepted, all_departed}
 
@@ -30,7 +32,7 @@ pub record Fair : Type 0 where
 -- A depot with under 4 waiting never meets 18 or 19.
 pub record Reserved : Type 0 where
   pub never : (calls : List Call) (d : ℕ) (b : Block) (r : Refusal) → waiting (run new calls) d < 4
-      → hand_answer (waiting (run new calls)) d b ≡ Err r → r.number < 18
+      → hand_answer (waiting (run new calls)) d b ≡ Err r → number_of r.reason < 18
 
 -- ---- each depot's blocks
 
@@ -50,26 +52,26 @@ pub record InOrder : Type 0 where
 
 -- "None waiting" is given only if every depot has none, and writes nothing.
 pub record NoneOnly : Type 0 where
-  pub empty : (calls : List Call) (room : ℕ) → send_answer (run new calls) room ≡ (Ok None)
+  pub empty : (calls : List Call) (room : ℕ) → send_answer (run new calls) room ≡ Ok None
       → (d : ℕ) → d < 30 → waiting (run new calls) d ≡ 0
-  pub output : (q : Queues) (tones : List ℕ) → send_answer q (length tones) ≡ (Ok None)
+  pub output : (q : Queues) (tones : List ℕ) → send_answer q (length tones) ≡ Ok None
       → tones_by (send_answer q (length tones)) q tones ≡ tones
 
 -- A refused call, and one with none waiting, changes neither queues nor turn.
 pub record Unchanged : Type 0 where
   pub not_taken : (q : Queues) (depot : ℕ) (b : Block) (r : Refusal) → hand_answer (waiting q) depot b ≡ Err r → after q (hand depot b) ≡ q
   pub not_sent : (q : Queues) (tones : List ℕ) (r : Refusal) → send_answer q (length tones) ≡ Err r → after q (send tones) ≡ q
-  pub none : (q : Queues) (tones : List ℕ) → send_answer q (length tones) ≡ (Ok None) → after q (send tones) ≡ q
+  pub none : (q : Queues) (tones : List ℕ) → send_answer q (length tones) ≡ Ok None → after q (send tones) ≡ q
 
 -- the depot's oldest block is a text of the mode, and what is written are its tones
-pub record SendsOldest (q : Queues) (tones : List ℕ) (d mode : ℕ) : Type 0 where
-  pub known : d < 30
-  pub waits : 0 < waiting q d
-  pub its_mode : (oldest q d).mode ≡ mode
-  pub text : IsText mode (oldest q d).codes
-  pub written : tones_by (BLOCK d mode) q tones ≡ over (tones_of mode (oldest q d).codes) tones
+pub record SendsOldest (q : Queues) (tones : List ℕ) (s : Served) : Type 0 where
+  pub known : s.depot < 30
+  pub waits : 0 < waiting q s.depot
+  pub its_mode : (oldest q s.depot).mode ≡ s.mode
+  pub text : IsText s.mode (oldest q s.depot).codes
+  pub written : tones_by (Ok (Some s)) q tones ≡ over (tones_of s.mode (oldest q s.depot).codes) tones
 
 -- A send takes the depot's oldest block, in the mode it was handed in with, and returns depot and mode.
 pub record SentWhole : Type 0 where
-  pub sends : (calls : List Call) (tones : List ℕ) (d mode : ℕ)
-      → send_answer (run new calls) (length tones) ≡ BLOCK d mode → SendsOldest (run new calls) tones d mode
+  pub sends : (calls : List Call) (tones : List ℕ) (s : Served)
+      → send_answer (run new calls) (length tones) ≡ Ok (Some s) → SendsOldest (run new calls) tones s

@@ -1,9 +1,7 @@
-use mathlib.Core.Path.{sym, ◌∙◌, ap}
-use native.Mathlib.Omega.{arith}
+use Rattle.std.proofs.Common.{◌∙◌, sym, ap, Err, arith}
 use Rattle.sender.specs.State.{counts_in}
 use Rattle.sender.proofs.Steps.{one_more_reserved}
 use Rattle.sender.proofs.PlaceCases.{refuses_depot, refuses_full, refuses_sum, takes_block}
-use Rattle.std.proofs.Common.{Err}
 use Rattle.sender.proofs.counts.place.Goals as goal
 
 pub returns-then-depot-gt29 : goal.returns-then-depot-gt29
@@ -14,19 +12,11 @@ returns-then-own-ge8 c = ap Err c.at-then-own-ge8.ensures ∙ sym (refuses_full 
 
 pub returns-then-share-reserved : goal.returns-then-share-reserved
 returns-then-share-reserved c =
-    let s2 = c.before.before in
-    let r = s2.before in
-    let s1 = r.before in
     let a = c.args in
     ap Err c.at-then-share-reserved.ensures
-    ∙ sym (refuses_sum (counts_in a.state.now) a.depot (omega arith) (omega arith)
-    (omega (arith, one_more_reserved (counts_in a.state.now) a.depot (omega arith), c.if-share-reserved.true, s2.share-2.ensures.0, r.reserved.ensures.0, s1.share.ensures.0)))
+    ∙ sym (refuses_sum (counts_in a.state.now) a.depot (omega arith) (omega arith) (omega (arith, one_more_reserved (counts_in a.state.now) a.depot (omega arith))))
 
 pub returns : goal.returns
 returns c =
-    let s2 = c.before in
-    let r = s2.before in
-    let s1 = r.before in
     let a = c.args in
-    sym (takes_block (counts_in a.state.now) a.depot (omega arith) (omega arith)
-    (omega (arith, one_more_reserved (counts_in a.state.now) a.depot (omega arith), c.if-share-reserved.false, s2.share-2.ensures.0, r.reserved.ensures.0, s1.share.ensures.0)))
+    sym (takes_block (counts_in a.state.now) a.depot (omega arith) (omega arith) (omega (arith, one_more_reserved (counts_in a.state.now) a.depot (omega arith))))

@@ -1,54 +1,45 @@
-use mathlib.Core.Path.{◌≡◌, sym, ◌∙◌}
-use Prim.Native.Nat.{◌≤◌}
-use native.Mathlib.Omega.{arith}
+use Rattle.std.proofs.Common.{◌≡◌, sym, ap, ◌≤◌, Ok, Err, IsErrAnd, arith}
+use Rattle.refusal.specs.Refused.{Answered}
+use Rattle.refusal.specs.declared.Refusal.{Refusal}
 use Rattle.refusal.proofs.Limits.{mode_range}
-use Rattle.sender.specs.Queues.{Block, hand_answer}
 use Rattle.sender.specs.State.{counts_in}
 use Rattle.sender.proofs.Cases.{Takes, taken_checks}
-use Rattle.sender.proofs.HandingIn.{no_state, refused_in, taken_in}
-use borrow.Author.Rules.{rules}
-use Rattle.std.proofs.Common.{Ok}
+use Rattle.sender.proofs.HandingIn.{refused_in, taken_in}
 use Rattle.sender.proofs.lent.hand_in.Goals as goal
-use Rattle.sender.proofs.lent.hand_in.Goals.{In-Taken}
+use Rattle.sender.proofs.lent.hand_in.Goals.{In_ok-judge}
 
-pub returns-then-state-ne-SIZE : goal.returns-then-state-ne-SIZE
-returns-then-state-ne-SIZE c =
-    let both = no_state _ _ _ c.at.ensures c.if-state-ne-SIZE.true in
-    record { run = both.0; any = both.1 }
+as_err : (r : Answered Unit) (x : Refusal) → IsErrAnd r (λ y. y ≡ x) → r ≡ Err x
+as_err (Err y) x h = ap Err h
+as_err (Ok u) x h = absurd h
 
--- the block that is handed in
-abbrev block : (c : In-Taken) → Block
-block c = record { mode = c.args.mode; codes = c.args.codes.now }
+pub returns-in_err-judge : goal.returns-in_err-judge
+returns-in_err-judge c =
+    let whole = c.in-Some.ensures.cases in
+    let told : ◌≡◌ {A = Answered Unit} c.from_residual.result (Err c.in_err-judge.field-0.0) = as_err _ _ c.from_residual.ensures.1 in
+    let both = refused_in _ _ _ whole.long _ (rw whole.same at (sym c.in_err-judge.ensures)) in
+    rw (told, whole.same) (record { run = both.0; any = both.1 })
 
--- the answer by the counts, and what it rests on
-answers_taken : (c : In-Taken) → hand_answer (counts_in c.args.state.now) c.args.depot (block c) ≡ (Ok tt)
-answers_taken c = sym c.judge-answer.ensures ∙ c.in-Ok.is
+-- the block passes the checks
+taken : (c : In_ok-judge) → let a = c.args in Takes (counts_in c.in-Some.state.now) a.depot (record { mode = a.mode; codes = a.codes.now })
+taken c = taken_checks _ _ _ (sym c.in_ok-judge.ensures)
 
-taken : (c : In-Taken) → Takes (counts_in c.args.state.now) c.args.depot (block c)
-taken c = taken_checks _ _ _ (answers_taken c)
-
-mode_small : (c : In-Taken) → c.args.mode ≤ 8
-mode_small c = (mode_range (block c).mode (taken c).right.mode).1
+mode_small : (c : In_ok-judge) → c.args.mode ≤ 8
+mode_small c = (mode_range c.args.mode (taken c).right.mode).1
 
 pub overflow_cast-depot : goal.overflow_cast-depot
-overflow_cast-depot c = omega (arith, (taken (goal.at.overflow_cast-depot c).In-Taken).known)
+overflow_cast-depot c = omega (arith, (taken c).known)
 
 pub overflow_cast-mode : goal.overflow_cast-mode
-overflow_cast-mode c = omega (arith, mode_small (goal.at.overflow_cast-mode c).In-Taken)
+overflow_cast-mode c = omega (arith, mode_small (goal.at.overflow_cast-mode c).In_ok-judge)
 
 pub store-requires : goal.store-requires
 store-requires c =
-    let at = (goal.at.store-requires c).In-Taken in
+    let at = (goal.at.store-requires c).In_ok-judge in
     let t = taken at in
-    (search rules, t.known, t.own, omega (arith, t.right.count, mode_small at))
+    (t.known, t.own, omega (arith, t.right.count, mode_small at))
 
-pub returns-in-Ok : goal.returns-in-Ok
-returns-in-Ok c =
-    let at = (goal.at.returns-in-Ok c).In-Taken in
-    let both = taken_in _ _ _ c.if-state-ne-SIZE.false _ (answers_taken at) c.store.ensures in
-    record { run = both.0; any = both.1 }
-
-pub returns-in-Err : goal.returns-in-Err
-returns-in-Err c =
-    let both = refused_in _ _ _ c.if-state-ne-SIZE.false _ (sym c.judge-answer.ensures ∙ c.in-Err.is) in
+pub returns : goal.returns
+returns c =
+    let whole = c.in-Some.ensures.cases in
+    let both = taken_in _ _ _ whole.long _ (rw whole.same at (sym c.in_ok-judge.ensures)) (rw whole.same at c.store.ensures) in
     record { run = both.0; any = both.1 }

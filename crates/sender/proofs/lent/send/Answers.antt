@@ -1,40 +1,42 @@
-use mathlib.Core.Path.{ap}
-use Prim.Native.Nat.{ℕ, ◌+◌, ◌%◌}
-use native.Mathlib.Omega.{arith}
+use Rattle.std.proofs.Common.{◌≡◌, refl, ◌∙◌, sym, ◌%◌, ◌<◌, arith}
 use Rattle.lists.specs.Lists.{num}
+use Rattle.lists.proofs.Found.{found_some, found_none}
+use Rattle.sender.specs.Queues.{ahead}
+use Rattle.sender.specs.State.{counts_in}
 use Rattle.sender.proofs.Cases.{ahead_some}
-use Rattle.sender.proofs.SendingOut.{short_sent, no_state_sent, none_sent, block_sent}
-use borrow.Author.Rules.{rules}
+use Rattle.sender.proofs.SendingOut.{short_sent, none_sent, block_sent}
 use Rattle.sender.proofs.lent.send.Goals as goal
+use Rattle.sender.proofs.lent.send.Goals.{In-Some-ahead}
 
-pub returns-then-tones-lt64 : goal.returns-then-tones-lt64
-returns-then-tones-lt64 c =
-    let both = short_sent _ _ c.at.ensures (omega (arith, c.if-tones-lt64.true)) in
-    record { run = both.0; any = both.1 }
+pub returns-then-tones-lt64-clause-run : goal.returns-then-tones-lt64-clause-run
+returns-then-tones-lt64-clause-run c = short_sent _ _ c.at.ensures c.if-tones-lt64.true
 
-pub returns-then-state-ne-SIZE : goal.returns-then-state-ne-SIZE
-returns-then-state-ne-SIZE c =
-    let both = no_state_sent _ _ c.if-tones-lt64.false c.if-state-ne-SIZE.true in
-    record { run = both.0; any = both.1 }
+pub returns-in_default-ahead : goal.returns-in_default-ahead
+returns-in_default-ahead c =
+    let same = c.in-Some.ensures.cases.same in
+    let none = rw (c.from-turn.ensures, same) at (found_none _ _ (sym c.ahead.ensures ∙ c.in_default-ahead.is)) in
+    let both = none_sent _ _ c.if-tones-lt64.false none in
+    rw same (record { run = both.0; any = both.1 })
 
-pub overflow_cast-turn : goal.overflow_cast-turn
-overflow_cast-turn c = search rules
+-- the depot that is served
+one_ahead : (c : In-Some-ahead) → let bytes = c.in-Some.state.now in let first = ahead (num bytes 1531 % 30) (counts_in bytes) in
+    (c.in-Some-ahead.ahead ≡ first) × (first < 30)
+one_ahead c = found_some _ _ _ (sym (rw c.from-turn.ensures at c.ahead.ensures) ∙ c.in-Some-ahead.is)
 
-pub returns-then-ahead-ge30 : goal.returns-then-ahead-ge30
-returns-then-ahead-ge30 c =
-    let both = none_sent _ _ c.if-tones-lt64.false (rw c.ahead-ahead.ensures at c.if-ahead-ge30.true) in
-    record { run = both.0; any = both.1 }
+pub overflow_add-turn : goal.overflow_add-turn
+overflow_add-turn c =
+    let known = one_ahead c in
+    omega (arith, known.0, known.1)
 
 pub serve-requires : goal.serve-requires
 serve-requires c =
-    let a = c.before.before.before in
-    (search rules, search rules, rw a.ahead-ahead.ensures (ahead_some _ _ (rw a.ahead-ahead.ensures at c.if-ahead-ge30.false)), search rules)
+    let known = one_ahead (goal.at.serve-requires c).In-Some-ahead in
+    (omega arith, rw (c.from-turn.ensures, known.0) (ahead_some _ _ known.1), c.if-tones-lt64.false)
 
 pub returns : goal.returns
 returns c =
-    let a = c.before.before.before.before.before.before.before.before in
-    let s = a.before in
-    let depot = ap (λ (k : ℕ). (num s.args.state.now 1531 % 30 + k) % 30) a.ahead-ahead.ensures in
-    let found = rw a.ahead-ahead.ensures at c.if-ahead-ge30.false in
-    let both = block_sent _ _ a.if-tones-lt64.false _ depot found _ _ _ c.serve.ensures in
+    let known = one_ahead (goal.at.returns c).In-Some-ahead in
+    let whole = c.in-Some.ensures.cases in
+    let told = rw (c.from-turn.ensures, known.0, whole.same) at c.serve.ensures in
+    let both = block_sent _ _ c.if-tones-lt64.false _ refl (rw whole.same at known.1) _ _ _ told in
     record { run = both.0; any = both.1 }

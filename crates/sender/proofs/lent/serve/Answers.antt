@@ -1,108 +1,87 @@
-use mathlib.Core.Path.{◌≡◌, refl, sym, ◌∙◌, ap}
-use mathlib.Core.List.{List}
-use Prim.Native.Nat.{ℕ, ◌+◌, ◌-◌, ◌*◌, ◌≤◌}
-use native.Mathlib.Omega.{arith}
-use lib.ListN.{length, take, drop}
-use Rattle.lists.specs.Lists.{num}
-use Rattle.block_encoder.specs.Encoding.{encode_block, encoded_into}
+use Rattle.std.proofs.Common.{◌≡◌, refl, sym, ◌∙◌, ap, ap₂, List, ℕ, ◌+◌, ◌-◌, ◌*◌, ◌≤◌, length, take, drop, Some, arith}
+use Rattle.lists.proofs.Found.{found_some, found_none}
+use Rattle.block_encoder.specs.Encoding.{encoded_into}
 use Rattle.block_encoder.proofs.EncodeCases.{tones_kept, tones_written}
 use Rattle.block_encoder.proofs.CheckCases.{encoded_right, right_text}
 use Rattle.sender.specs.Queues.{Block}
-use Rattle.sender.specs.State.{place_in}
-use Rattle.sender.specs.Sending.{is_block}
+use Rattle.sender.specs.State.{place_in, filled}
+use Rattle.sender.specs.Internal.{place_with}
+use Rattle.sender.specs.declared.Served.{Served}
 use Rattle.sender.proofs.Filled.{part_codes}
-use Rattle.sender.proofs.Serving.{places_fit, place_there, oldest_there}
-use borrow.Author.Rules.{rules}
+use Rattle.sender.proofs.Serving.{place_there, oldest_there}
 use Rattle.sender.proofs.lent.serve.Goals as goal
 use Rattle.sender.proofs.lent.serve.Goals.{After-encode_block}
 
-pub overflow_cast-count : goal.overflow_cast-count
-overflow_cast-count c = search rules
-
-pub returns-then-count-gt150 : goal.returns-then-count-gt150
-returns-then-count-gt150 c =
-    let s = c.before.before.before.before in
-    record {
-      serves = λ q h some few ok. absurd (omega (arith, places_fit q s.args.state.now s.args.depot h s.requires.1 some few, c.if-count-gt150.true));
-      unrefused = λ r e. let z : ◌≡◌ {A = ℕ} 0 1 = cc in omega arith;
+pub returns-in_err-at : goal.returns-in_err-at
+returns-in_err-at c =
+    let a = c.args in
+    let past = found_none _ _ (sym c.in_err-at.ensures.place) in
+    rw c.from_residual.ensures
+    (record {
+      serves = λ q h some few ok. absurd (omega (arith, place_there q a.state.now a.depot h c.requires.0 some few, rw c.from-count.ensures at past));
       kept = λ e. record { output = refl; state_kept = refl };
-      written = λ d mode e. let z : ◌≡◌ {A = ℕ} 0 1 = cc in absurd (omega arith);
-    }
+      written = λ s e. absurd cc;
+    })
 
-pub returns-then-count-at : goal.returns-then-count-at
-returns-then-count-at c =
-    let s = c.before in
-    record {
-      serves = λ q h some few ok.
-          absurd (omega (arith, place_there q s.args.state.now s.args.depot h s.requires.1 some few, c.place_of-at.ensures, c.if-count-at.true));
-      unrefused = λ r e. let z : ◌≡◌ {A = ℕ} 0 1 = cc in omega arith;
-      kept = λ e. record { output = refl; state_kept = refl };
-      written = λ d mode e. let z : ◌≡◌ {A = ℕ} 0 1 = cc in absurd (omega arith);
-    }
-
-pub overflow_cast-mode : goal.overflow_cast-mode
-overflow_cast-mode c = search rules
-
--- the place of the block, its mode and its codes as the encoder gets them
-abbrev at : (c : After-encode_block) → ℕ
-at c = c.place_of-at.result
-
-abbrev its_mode : (c : After-encode_block) → ℕ
-its_mode c = num c.args.state.now (10 * at c + 1)
-
+-- the mode and the codes as the encoder gets them, which are the place's
 abbrev its_codes : (c : After-encode_block) → List ℕ
-its_codes c = let from = 10 * at c + 2 in take (from + c.code_count.result - from) (drop from c.args.state.now)
+its_codes c = let from = 10 * c.in_ok-at.at + 2 in take (from + c.code_count.result - from) (drop from c.args.state.now)
 
-codes_placed : (c : After-encode_block) → its_codes c ≡ (place_in c.args.state.now (at c)).block.codes
+codes_placed : (c : After-encode_block) → its_codes c ≡ (place_in c.args.state.now c.in_ok-at.at).block.codes
 codes_placed c =
-    let place-fits : 10 * at c + 10 ≤ length c.args.state.now = omega (arith, c.requires.0) in
-    let n = c.code_count in
-    part_codes c.args.state.now (at c) n.result place-fits n.ensures
+    let at = c.in_ok-at.at in
+    let fits : 10 * at + 10 ≤ length c.args.state.now = omega (arith, c.in_ok-at.ensures.below) in
+    part_codes c.args.state.now at c.code_count.result fits (rw c.from-mode.ensures at c.code_count.ensures)
 
-pub returns-in-Ok : goal.returns-in-Ok
-unfolding place_in is_block
-returns-in-Ok c =
-    let enc = (goal.at.returns-in-Ok c).After-encode_block in
-    let p = enc.place_of-at in
-    let accepted = sym enc.encode_block.ensures.answer ∙ c.in-Ok.is in
+-- the place is the first with a block of the depot
+first_place : (c : After-encode_block) → c.in_ok-at.at ≡ place_with c.args.depot c.args.state.now (filled c.args.state.now)
+first_place c = rw c.from-count.ensures at (found_some _ _ _ (sym c.in_ok-at.ensures.place)).0
+
+-- what is encoded is the depot's oldest block
+oldest_encoded : (c : After-encode_block) → let a = c.args in (b : Block) → b ≡ (place_in a.state.now c.in_ok-at.at).block
+    → (c.from-mode.result ≡ b.mode) × (its_codes c ≡ b.codes)
+unfolding place_in
+oldest_encoded c b o = (c.from-mode.ensures ∙ ap (λ (x : Block). x.mode) (sym o), codes_placed c ∙ ap (λ (x : Block). x.codes) (sym o))
+
+pub returns-in_default : goal.returns-in_default
+returns-in_default c =
+    let at = (goal.at.returns-in_default c).After-encode_block in
+    let a = c.args in
+    let refused = sym c.encode_block.ensures.answer ∙ c.in_default.is in
     record {
       serves = λ q h some few ok.
-          let o = oldest_there q enc.args.state.now enc.args.depot h enc.requires.1 some few p.result p.ensures in
+          let same = oldest_encoded at _ (oldest_there q a.state.now a.depot h c.requires.0 some few c.in_ok-at.at (first_place at)) in
+          let encoded = rw (sym same.0, sym same.1) at ok in
+          absurd (cc (encoded, refused));
+      kept = λ e. record { output = c.encode_block.ensures.output ∙ tones_kept _ _ _ refused; state_kept = refl };
+      written = λ s e. absurd cc;
+    }
+
+mode_served : {s t : Served} → Some s ≡ Some t → s.mode ≡ t.mode
+mode_served {s} {t} e =
+    let same : s ≡ t = cc in
+    ap (λ (x : Served). x.mode) same
+
+pub returns : goal.returns
+returns c =
+    let at = (goal.at.returns c).After-encode_block in
+    let a = c.args in
+    let accepted = sym c.encode_block.ensures.answer ∙ c.in-Ok.is in
+    record {
+      serves = λ q h some few ok.
+          let same = oldest_encoded at _ (oldest_there q a.state.now a.depot h c.requires.0 some few c.in_ok-at.at (first_place at)) in
           record {
-            answered = ap (λ (b : Block). BLOCK enc.args.depot b.mode) (sym o);
-            output =
-                enc.encode_block.ensures.output
-                ∙ ap (λ (codes : List ℕ). encoded_into (its_mode enc) codes enc.args.tones.now) (codes_placed enc)
-                ∙ ap (λ (b : Block). encoded_into b.mode b.codes enc.args.tones.now) (sym o);
-            left = c.take_out.ensures.left q h some few p.ensures;
+            answered = ap (λ (m : ℕ). Some (record { depot = a.depot; mode = m })) same.0;
+            output = c.encode_block.ensures.output ∙ ap₂ (λ (m : ℕ) (codes : List ℕ). encoded_into m codes a.tones.now) same.0 same.1;
+            left = c.take_out.ensures.left q h some few (first_place at);
           };
-      unrefused = λ r e. let z : ◌≡◌ {A = ℕ} 0 1 = cc in omega arith;
-      kept = λ e. let z : ◌≡◌ {A = ℕ} 0 1 = cc in absurd (omega arith);
-      written = λ d mode e.
-          let m : its_mode enc ≡ mode = cc in
+      kept = λ e. absurd cc;
+      written = λ s e.
+          let m = mode_served e in
           rw (← m)
           (record {
-            codes = its_codes enc;
-            text = right_text (its_mode enc) (its_codes enc) (encoded_right _ _ _ _ accepted);
-            output = enc.encode_block.ensures.output ∙ tones_written _ _ _ accepted;
+            codes = its_codes at;
+            text = right_text _ _ (encoded_right _ _ _ _ accepted);
+            output = c.encode_block.ensures.output ∙ tones_written _ _ _ accepted;
           });
-    }
-
-pub returns-in-Err : goal.returns-in-Err
-unfolding place_in
-returns-in-Err c =
-    let enc = (goal.at.returns-in-Err c).After-encode_block in
-    let p = enc.place_of-at in
-    let refused = sym enc.encode_block.ensures.answer ∙ c.in-Err.is in
-    record {
-      serves = λ q h some few ok.
-          let o = oldest_there q enc.args.state.now enc.args.depot h enc.requires.1 some few p.result p.ensures in
-          let same =
-          ap (λ (codes : List ℕ). encode_block (its_mode enc) codes (length enc.args.tones.now)) (codes_placed enc)
-          ∙ ap (λ (b : Block). encode_block b.mode b.codes (length enc.args.tones.now)) (sym o) ∙ ok in
-          let z : ◌≡◌ {A = ℕ} 0 1 = cc in
-          absurd (omega arith);
-      unrefused = λ r e. let z : ◌≡◌ {A = ℕ} 0 1 = cc in omega arith;
-      kept = λ e. record { output = enc.encode_block.ensures.output ∙ tones_kept _ _ _ refused; state_kept = refl };
-      written = λ d mode e. let z : ◌≡◌ {A = ℕ} 0 1 = cc in absurd (omega arith);
     }
