@@ -63,10 +63,10 @@ module _ (b m : ℕ) (run : List ℕ) (room : ℕ) where
     refuses_tone h = rw (lt-ltb (first_bad_tone (2 ^ b) run) (length run) h) at in_range
 
     module _ (good : length run ≤ first_bad_tone (2 ^ b) run) where
-      tells_start : first_start b m run room < starts run → found_start b m run room ≡ Ok (first_start b m run room)
+      pub tells_start : first_start b m run room < starts run → found_start b m run room ≡ Ok (first_start b m run room)
       tells_start h = rw (le-ltb (first_bad_tone (2 ^ b) run) (length run) good, lt-ltb (first_start b m run room) (starts run) h) at in_range
 
-      tells_none : starts run ≤ first_start b m run room → found_start b m run room ≡ Err (refused_at Reason.NotFound 0)
+      pub tells_none : starts run ≤ first_start b m run room → found_start b m run room ≡ Err (refused_at Reason.NotFound 0)
       tells_none h = rw (le-ltb (first_bad_tone (2 ^ b) run) (length run) good, le-ltb (first_start b m run room) (starts run) h) at in_range
 
       -- the start that the search finds, or that it finds none

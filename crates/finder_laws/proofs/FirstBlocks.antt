@@ -60,7 +60,7 @@ module _ (b m : ℕ) (run codes : List ℕ) where
         let settings = s.passed.settings in
         let answer = ap (λ (d : BlockDecoded). is_text d.answer) (decided b m tones (length codes) settings w s.passed.fits) in
         let few = leb-false (length (characters_of b tones)) _ (sym (accepts m (characters_of b tones) b) ∙ sym answer ∙ e) in
-        refuses Reason.Mode b m tones plain codes (passed b m tones (length codes) settings w.count s.passed.fits) w (has_throughout 1 1 (omega arith))
+        refuses 1 b m tones plain codes (passed b m tones (length codes) settings w.count s.passed.fits) w (has_throughout 1 1 (omega arith))
         (omega (arith, few, characters_length b tones plain))
 
     unclear_before : (start : ℕ) → start < starts run → start < first_start b m run (length codes) → UnclearAt b m run codes start
