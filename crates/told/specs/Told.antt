@@ -1,5 +1,5 @@
 -- What C is told of each answer (include/olivia.h).
-use Rattle.std.specs.Prelude.{List, ℕ, get_or, Ok, Err, Option}
+use Rattle.std.specs.Prelude.{List, ℕ, get_or, Ok, Err, Option, Some, None}
 use Rattle.lists.specs.Lists.{tab}
 use Rattle.refusal.specs.declared.Refusal.{Refusal}
 use Rattle.decision.specs.Decision.{none}
@@ -9,7 +9,8 @@ use Rattle.finder.specs.Stretch.{start_of}
 use Rattle.finder.specs.declared.BlockFound.{BlockFound}
 use Rattle.energy.specs.declared.Energies.{Energies}
 use Rattle.scaled.specs.Exact.{scaled}
-use Rattle.band.specs.Locating.{refusal_of}
+use Rattle.band.specs.declared.Heard.{Heard}
+use Rattle.sender.specs.declared.Served.{Served}
 use Rattle.told.specs.declared.Answer.{Answer}
 use Rattle.told.specs.declared.CharacterAnswer.{CharacterAnswer}
 use Rattle.told.specs.declared.BlockAnswer.{BlockAnswer}
@@ -18,23 +19,19 @@ use Rattle.told.specs.declared.EnergiesAnswer.{EnergiesAnswer}
 use Rattle.told.specs.declared.LocatedAnswer.{LocatedAnswer}
 use Rattle.told.specs.declared.SentAnswer.{SentAnswer}
 use Rattle.told.specs.declared.ReadAnswer.{ReadAnswer}
-use Rattle.refusal.specs.declared.Reason.{Reason}
-use Rattle.refusal.specs.Refused.{Answered}
+use Rattle.refusal.specs.Refused.{Answered, number_of}
 
 -- number 0: accepted, with the count of tones, codes or bytes written
 abbrev pub accepted_told : ℕ → Answer
 accepted_told n = record { number = 0; place = 0; lead = 0; count = n }
 
 abbrev pub refusal_told : Refusal → Answer
-refusal_told r = record { number = r.number; place = r.place; lead = r.lead; count = 0 }
+refusal_told r = record { number = number_of r.reason; place = r.place; lead = r.lead; count = 0 }
 
-abbrev pub encoded_told : Answered ℕ → Answer
-encoded_told (Ok n) = accepted_told n
-encoded_told (Err r) = refusal_told r
-
-abbrev pub decoded_told : Answered ℕ → Answer
-decoded_told (Ok n) = accepted_told n
-decoded_told (Err r) = refusal_told r
+-- a count of what was written, or the refusal
+abbrev pub counted_told : Answered ℕ → Answer
+counted_told (Ok n) = accepted_told n
+counted_told (Err r) = refusal_told r
 
 abbrev pub character_told : Character → CharacterAnswer
 character_told c = record {
@@ -51,7 +48,7 @@ unfoldable pub characters_told : List Character → List CharacterAnswer
 characters_told characters = tab (λ q. character_told (get_or characters q none)) 8
 
 unfoldable pub block_told : BlockDecoded → BlockAnswer
-block_told d = record { answer = decoded_told d.answer; characters = characters_told d.characters }
+block_told d = record { answer = counted_told d.answer; characters = characters_told d.characters }
 
 -- a block found has the mode's b codes
 abbrev pub finding_told : ℕ → Answered ℕ → Answer
@@ -64,21 +61,19 @@ found_told b d = record { answer = finding_told b d.answer; start = start_of d.a
 -- number 0: the total, beside the sums
 abbrev pub sums_told : List ℕ → Answered ℕ → EnergiesAnswer
 sums_told sums (Ok n) = record { number = 0; place = 0; total = n; sums = sums }
-sums_told sums (Err r) = record { number = r.number; place = r.place; total = 0; sums = sums }
+sums_told sums (Err r) = record { number = number_of r.reason; place = r.place; total = 0; sums = sums }
 
 abbrev pub energies_told : Energies → EnergiesAnswer
 energies_told e = sums_told e.sums e.answer
 
 -- a refusal has neither tone nor distance: zeros stand there
 abbrev pub nowhere_told : Refusal → LocatedAnswer
-nowhere_told r = record { number = r.number; place = r.place; tone = 0; hertz_off = scaled 0 }
+nowhere_told r = record { number = number_of r.reason; place = r.place; tone = 0; hertz_off = scaled 0 }
 
 -- number 0: the tone, and its distance
 abbrev pub located_told : Answered Heard → LocatedAnswer
-located_told (HEARD n off) = record { number = 0; place = 0; tone = n; hertz_off = off }
-located_told (Err (refused_at Reason.NotFinite 0)) = nowhere_told (refusal_of (Err (refused_at Reason.NotFinite 0)))
-located_told (Err (refused_at Reason.OutsideBand 0)) = nowhere_told (refusal_of (Err (refused_at Reason.OutsideBand 0)))
-located_told (Err r) = nowhere_told (refusal_of (Err r))
+located_told (Ok h) = record { number = 0; place = 0; tone = h.tone; hertz_off = h.hertz_off }
+located_told (Err r) = nowhere_told r
 
 -- a block that is handed in writes nothing yet
 abbrev pub handed_told : Answered Unit → Answer
@@ -87,15 +82,11 @@ handed_told (Err r) = refusal_told r
 
 -- 64 tones of a depot's block, or none
 abbrev pub sent_told : Answered (Option Served) → SentAnswer
-sent_told (BLOCK depot mode) = record { answer = accepted_told 64; depot = depot; mode = mode }
+sent_told (Ok (Some s)) = record { answer = accepted_told 64; depot = s.depot; mode = s.mode }
 sent_told (Ok None) = record { answer = accepted_told 0; depot = 0; mode = 0 }
 sent_told (Err r) = record { answer = refusal_told r; depot = 0; mode = 0 }
 
-abbrev pub written_told : Answered ℕ → Answer
-written_told (Ok n) = accepted_told n
-written_told (Err r) = refusal_told r
-
 -- number 0: the refusal that the sentence came from
 abbrev pub read_told : Answered Refusal → ReadAnswer
-read_told (Ok r) = record { answer = accepted_told 0; number = r.number; place = r.place; lead = r.lead }
+read_told (Ok r) = record { answer = accepted_told 0; number = number_of r.reason; place = r.place; lead = r.lead }
 read_told (Err r) = record { answer = refusal_told r; number = 0; place = 0; lead = 0 }

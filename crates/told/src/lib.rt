@@ -3,14 +3,16 @@
 
 ghost use Rattle.std.specs.Prelude.{◌≡◌};
 ghost use Rattle.lists.specs.Caps.{capped};
-ghost use Rattle.told.specs.Told.{accepted_told, refusal_told, encoded_told, decoded_told, character_told, characters_told, block_told, found_told, energies_told, nowhere_told, located_told, handed_told, sent_told, written_told, read_told};
-ghost use Rattle.told.specs.Capped.{place_capped, sent_capped, heard_capped, block_capped, found_capped, energies_capped, located_capped, handed_capped, out_capped, written_capped, read_capped};
+ghost use Rattle.told.specs.Told.{accepted_told, refusal_told, counted_told, character_told, characters_told, block_told, found_told, energies_told, located_told, handed_told, sent_told, read_told};
+ghost use Rattle.told.specs.Capped.{place_capped, counted_capped, refused_capped, block_capped, found_capped, energies_capped, read_capped};
 
+use band::Heard;
 use block_decoder::BlockDecoded;
-use decision::{Character, NONE};
+use decision::Character;
 use energy::Energies;
 use finder::BlockFound;
-use refusal::{Reason, Refusal};
+use refusal::Refusal;
+use sender::Served;
 
 // number 0: accepted, and count is the tones, codes or bytes written. Else the refusal, and count is 0.
 #[repr(C)]
@@ -90,226 +92,211 @@ pub struct ReadAnswer {
     pub lead: u32,
 }
 
-pub fn encoded(answer: Result<usize, Refusal>) -> Answer
-    ensures { result ≡ encoded_told (sent_capped answer) }
-{
-    match answer {
-        Ok(count) => accepted(count),
-        Err(refusal) => refused(refusal),
-    }
-}
-
-pub fn decoded(answer: Result<usize, Refusal>) -> Answer
-    ensures { result ≡ decoded_told (heard_capped answer) }
-{
-    match answer {
-        Ok(count) => accepted(count),
-        Err(refusal) => refused(refusal),
-    }
-}
-
-pub fn block(heard: BlockDecoded) -> BlockAnswer
-    ensures { result ≡ block_told (block_capped heard) }
-{
-    let answer = heard.answer;
-    let decided = heard.characters;
-    BlockAnswer {
-        answer: decoded(answer),
-        characters: characters(decided),
-    }
-}
-
-// A block found in a run has the mode's count of codes.
-pub fn found(mode: u32, found: BlockFound) -> FoundAnswer
-    ensures { result ≡ found_told mode (found_capped found) }
-{
-    let answer = found.answer;
-    let decided = found.characters;
-    let told = characters(decided);
-    match answer {
-        Ok(start) => FoundAnswer {
-            answer: accepted(mode as usize),
-            start: capped(start),
-            characters: told,
-        },
-        Err(refusal) => FoundAnswer {
-            answer: refused(refusal),
-            start: 0,
-            characters: told,
-        },
-    }
-}
-
-pub fn energies(energies: Energies) -> EnergiesAnswer
-    ensures { result ≡ energies_told (energies_capped energies) }
-{
-    let answer = energies.answer;
-    let sums = energies.sums;
-    match answer {
-        Ok(total) => EnergiesAnswer {
+impl Answer {
+    pub fn accepted(count: usize) -> Answer
+        ensures { result ≡ accepted_told (capped count) }
+    {
+        Answer {
             number: 0,
             place: 0,
-            total,
-            sums,
-        },
-        Err(refusal) => {
-            let told = refused(refusal);
-            EnergiesAnswer {
-                number: told.number,
-                place: told.place,
-                total: 0,
+            lead: 0,
+            count: capped(count),
+        }
+    }
+}
+
+impl From<Refusal> for Answer {
+    ghost from_gives = { λ refusal told. told ≡ refusal_told (place_capped refusal) };
+
+    fn from(refusal: Refusal) -> Answer {
+        Answer {
+            number: u32::from(refusal.reason.number()),
+            place: capped(refusal.place),
+            lead: refusal.lead,
+            count: 0,
+        }
+    }
+}
+
+impl From<Result<usize, Refusal>> for Answer {
+    ghost from_gives = { λ answer told. told ≡ counted_told (counted_capped answer) };
+
+    fn from(answer: Result<usize, Refusal>) -> Answer {
+        match answer {
+            Ok(count) => Answer::accepted(count),
+            Err(refusal) => Answer::from(refusal),
+        }
+    }
+}
+
+// A block that is handed in writes nothing yet, so that its count is 0.
+impl From<Result<(), Refusal>> for Answer {
+    ghost from_gives = { λ answer told. told ≡ handed_told (refused_capped answer) };
+
+    fn from(answer: Result<(), Refusal>) -> Answer {
+        match answer {
+            Ok(()) => Answer::accepted(0),
+            Err(refusal) => Answer::from(refusal),
+        }
+    }
+}
+
+impl From<Character> for CharacterAnswer {
+    ghost from_gives = { λ character told. told ≡ character_told character };
+
+    fn from(character: Character) -> CharacterAnswer {
+        CharacterAnswer {
+            code: u32::from(character.code),
+            lead: character.lead,
+            word: character.word,
+            correlation: character.correlation,
+            next: character.next,
+            next_correlation: character.next_correlation,
+        }
+    }
+}
+
+impl From<BlockDecoded> for BlockAnswer {
+    ghost from_gives = { λ heard told. told ≡ block_told (block_capped heard) };
+
+    fn from(heard: BlockDecoded) -> BlockAnswer {
+        let decided = heard.characters;
+        BlockAnswer {
+            answer: Answer::from(heard.answer),
+            characters: characters(decided),
+        }
+    }
+}
+
+impl FoundAnswer {
+    // A block found in a run has the mode's count of codes.
+    pub fn new(mode: u32, found: BlockFound) -> FoundAnswer
+        ensures { result ≡ found_told mode (found_capped found) }
+    {
+        let decided = found.characters;
+        let told = characters(decided);
+        match found.answer {
+            Ok(start) => FoundAnswer {
+                answer: Answer::accepted(mode as usize),
+                start: capped(start),
+                characters: told,
+            },
+            Err(refusal) => FoundAnswer {
+                answer: Answer::from(refusal),
+                start: 0,
+                characters: told,
+            },
+        }
+    }
+}
+
+impl From<Energies> for EnergiesAnswer {
+    ghost from_gives = { λ energies told. told ≡ energies_told (energies_capped energies) };
+
+    fn from(energies: Energies) -> EnergiesAnswer {
+        let sums = energies.sums;
+        match energies.answer {
+            Ok(total) => EnergiesAnswer {
+                number: 0,
+                place: 0,
+                total,
                 sums,
+            },
+            Err(refusal) => {
+                let told = Answer::from(refusal);
+                EnergiesAnswer {
+                    number: told.number,
+                    place: told.place,
+                    total: 0,
+                    sums,
+                }
             }
         }
     }
 }
 
-pub fn located(located: Result<Heard, Refusal>) -> LocatedAnswer
-    ensures { result ≡ located_told (located_capped located) }
-{
-    match located {
-        Located::Heard(tone, hertz_off) => LocatedAnswer {
-            number: 0,
-            place: 0,
-            tone: tone as u32,
-            hertz_off,
-        },
-        Located::NotFinite => nowhere(Refusal::at(Reason::NotFinite, 0)),
-        Located::OutsideBand => nowhere(Refusal::at(Reason::OutsideBand, 0)),
-        Err(refusal) => nowhere(refusal),
-    }
-}
+impl From<Result<Heard, Refusal>> for LocatedAnswer {
+    ghost from_gives = { λ located told. told ≡ located_told (refused_capped located) };
 
-fn nowhere(refusal: Refusal) -> LocatedAnswer
-    ensures { result ≡ nowhere_told (place_capped refusal) }
-{
-    let told = refused(refusal);
-    LocatedAnswer {
-        number: told.number,
-        place: told.place,
-        tone: 0,
-        hertz_off: 0.0,
-    }
-}
-
-// A block that is handed in writes nothing yet, so that its count is 0.
-pub fn handed(answer: Result<(), Refusal>) -> Answer
-    ensures { result ≡ handed_told (handed_capped answer) }
-{
-    match answer {
-        Ok(()) => accepted(0),
-        Err(refusal) => refused(refusal),
+    fn from(located: Result<Heard, Refusal>) -> LocatedAnswer {
+        match located {
+            Ok(heard) => LocatedAnswer {
+                number: 0,
+                place: 0,
+                tone: u32::from(heard.tone),
+                hertz_off: heard.hertz_off,
+            },
+            Err(refusal) => {
+                let told = Answer::from(refusal);
+                LocatedAnswer {
+                    number: told.number,
+                    place: told.place,
+                    tone: 0,
+                    hertz_off: 0.0,
+                }
+            }
+        }
     }
 }
 
 // The count tells a block from none waiting.
-pub fn sent(answer: Result<Option<Served>, Refusal>) -> SentAnswer
-    ensures { result ≡ sent_told (out_capped answer) }
-{
-    match answer {
-        Sent::Block(depot, mode) => SentAnswer {
-            answer: accepted(64),
-            depot,
-            mode,
-        },
-        Ok(None) => SentAnswer {
-            answer: accepted(0),
-            depot: 0,
-            mode: 0,
-        },
-        Err(refusal) => SentAnswer {
-            answer: refused(refusal),
-            depot: 0,
-            mode: 0,
-        },
-    }
-}
+impl From<Result<Option<Served>, Refusal>> for SentAnswer {
+    ghost from_gives = { λ answer told. told ≡ sent_told (refused_capped answer) };
 
-pub fn written(answer: Result<usize, Refusal>) -> Answer
-    ensures { result ≡ written_told (written_capped answer) }
-{
-    match answer {
-        Ok(count) => accepted(count),
-        Err(refusal) => refused(refusal),
-    }
-}
-
-pub fn read(answer: Result<Refusal, Refusal>) -> ReadAnswer
-    ensures { result ≡ read_told (read_capped answer) }
-{
-    match answer {
-        Ok(refusal) => {
-            let told = refused(refusal);
-            said(accepted(0), told.number, told.place, told.lead)
+    fn from(answer: Result<Option<Served>, Refusal>) -> SentAnswer {
+        match answer {
+            Ok(Some(served)) => SentAnswer {
+                answer: Answer::accepted(64),
+                depot: served.depot,
+                mode: served.mode,
+            },
+            Ok(None) => SentAnswer {
+                answer: Answer::accepted(0),
+                depot: 0,
+                mode: 0,
+            },
+            Err(refusal) => SentAnswer {
+                answer: Answer::from(refusal),
+                depot: 0,
+                mode: 0,
+            },
         }
-        Err(refusal) => said(refused(refusal), 0, 0, 0),
     }
 }
 
-fn said(answer: Answer, number: u32, place: u32, lead: u32) -> ReadAnswer
-    ensures { result ≡ record { answer = answer; number = number; place = place; lead = lead } }
-{
-    ReadAnswer {
-        answer,
-        number,
-        place,
-        lead,
+impl From<Result<Refusal, Refusal>> for ReadAnswer {
+    ghost from_gives = { λ answer told. told ≡ read_told (read_capped answer) };
+
+    fn from(answer: Result<Refusal, Refusal>) -> ReadAnswer {
+        match answer {
+            Ok(refusal) => {
+                let told = Answer::from(refusal);
+                ReadAnswer {
+                    answer: Answer::accepted(0),
+                    number: told.number,
+                    place: told.place,
+                    lead: told.lead,
+                }
+            }
+            Err(refusal) => ReadAnswer {
+                answer: Answer::from(refusal),
+                number: 0,
+                place: 0,
+                lead: 0,
+            },
+        }
     }
 }
 
-pub fn accepted(count: usize) -> Answer
-    ensures { result ≡ accepted_told (capped count) }
-{
-    Answer {
-        number: 0,
-        place: 0,
-        lead: 0,
-        count: capped(count),
-    }
-}
-
-pub fn refused(refusal: Refusal) -> Answer
-    ensures { result ≡ refusal_told (place_capped refusal) }
-{
-    Answer {
-        number: refusal.number as u32,
-        place: capped(refusal.place),
-        lead: refusal.lead,
-        count: 0,
-    }
-}
-
-pub fn characters(characters: [Character; 8]) -> [CharacterAnswer; 8]
+fn characters(characters: [Character; 8]) -> [CharacterAnswer; 8]
     ensures { result ≡ characters_told characters }
 {
-    let mut told = [character(NONE); 8];
-    let mut q: usize = 0;
-    while q < 8 {
-        told[q] = character(characters[q]);
-        q += 1;
-    }
-    told
-}
-
-fn character(character: Character) -> CharacterAnswer
-    ensures { result ≡ character_told character }
-{
-    CharacterAnswer {
-        code: character.code as u32,
-        lead: character.lead,
-        word: character.word,
-        correlation: character.correlation,
-        next: character.next,
-        next_correlation: character.next_correlation,
-    }
+    characters.map(CharacterAnswer::from)
 }
 
 // A count for C: 2^32 - 1 stands for every larger one.
 pub fn capped(count: usize) -> u32
     ensures { result ≡ capped count }
 {
-    if 0xffff_ffff < count {
-        return 0xffff_ffff;
-    }
-    count as u32
+    u32::try_from(count).unwrap_or(u32::MAX)
 }

@@ -1,8 +1,8 @@
-use mathlib.Core.Path.{◌≡◌, refl}
+use Rattle.std.proofs.Common.{◌≡◌, refl}
 use Rattle.lists.specs.Caps.{capped}
 use Rattle.told.specs.Told.{found_told}
 use Rattle.told.proofs.Kept.{small_kept}
-use Rattle.told.proofs.found.Goals as goal
+use Rattle.told.proofs.FoundAnswer.new.Goals as goal
 
 pub returns-in-Ok : goal.returns-in-Ok
 unfolding found_told
@@ -12,4 +12,4 @@ returns-in-Ok c =
 
 pub returns-in-Err : goal.returns-in-Err
 unfolding found_told
-returns-in-Err c = rw (c.in-Err.is, c.refused.ensures, c.characters-told.ensures) refl
+returns-in-Err c = rw (c.in-Err.is, c.from.ensures, c.characters-told.ensures) refl

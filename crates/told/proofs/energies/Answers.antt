@@ -1,8 +1,0 @@
-use mathlib.Core.Path.{refl}
-use Rattle.told.proofs.energies.Goals as goal
-
-pub returns-in-Ok : goal.returns-in-Ok
-returns-in-Ok c = rw c.in-Ok.is refl
-
-pub returns-in-Err : goal.returns-in-Err
-returns-in-Err c = rw (c.in-Err.is, c.refused-told.ensures) refl
