@@ -81,9 +81,6 @@ module _ (table : List Entry) (bytes : List ℕ) where
     pub sound : are_sound (listed (drop i table)) ≡ true
     pub same : read_from (listed table) 0 bytes ≡ read_from (listed (drop i table)) best bytes
 
-  pub read_start : are_sound (listed table) ≡ true → ReadLeft 0 0
-  read_start e = record { sound = e; same = refl }
-
   pub read_none : (i best : ℕ) → ReadLeft i best → i ≡ length table → Err (refused_at Reason.Sentence best) ≡ read_from (listed table) 0 bytes
   unfolding read_from
   read_none i best r e = sym (r.same ∙ ap (λ (l : List Entry). read_from (listed l) best bytes) (drop_of_length-le table (omega arith)))
@@ -125,9 +122,6 @@ module _ (table : List Entry) (n : ℕ) where
   pub record PatternLeft (i : ℕ) : Type 0 where
     pub sound : are_sound (listed (drop i table)) ≡ true
     pub same : pattern_in (listed table) n ≡ pattern_in (listed (drop i table)) n
-
-  pub pattern_start : are_sound (listed table) ≡ true → PatternLeft 0
-  pattern_start e = record { sound = e; same = refl }
 
   pub pattern_none : (i : ℕ) → PatternLeft i → i ≡ length table → pattern_in (listed table) n ≡ []
   unfolding pattern_in

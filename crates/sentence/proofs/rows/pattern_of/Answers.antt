@@ -1,10 +1,7 @@
 -- Before each turn the rows that are left have the number's pattern.
 use Rattle.std.proofs.Common.{sym, ◌∙◌, arith}
-use Rattle.sentence.proofs.RowCases.{pattern_start, pattern_none, pattern_found, pattern_later}
+use Rattle.sentence.proofs.RowCases.{pattern_none, pattern_found, pattern_later}
 use Rattle.sentence.proofs.rows.pattern_of.Goals as goal
-
-pub loop-row-init : goal.loop-row-init
-loop-row-init c = pattern_start c.args.rows.now c.args.number c.requires
 
 pub returns-then-from-number : goal.returns-then-from-number
 returns-then-from-number c =

@@ -1,10 +1,7 @@
 -- Before each turn the rows that are left decide what the bytes are read as.
 use Rattle.std.proofs.Common.{◌∙◌, sym, ap, arith, Err}
-use Rattle.sentence.proofs.RowCases.{max_is, read_start, read_none, row_pattern, read_found, read_more}
+use Rattle.sentence.proofs.RowCases.{max_is, read_none, row_pattern, read_found, read_more}
 use Rattle.sentence.proofs.rows.read.Goals as goal
-
-pub loop-row-init : goal.loop-row-init
-loop-row-init c = read_start c.args.rows.now c.args.bytes.now c.requires
 
 pub match_pattern-requires : goal.match_pattern-requires
 match_pattern-requires c =
