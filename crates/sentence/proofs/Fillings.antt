@@ -9,7 +9,7 @@ use Rattle.std.proofs.Common.{sum_by}
 use Rattle.std.proofs.lemmas.List.Sums.{sum_by-cons}
 use lib.Dec.{eqb}
 use lib.ListN.{length, take, drop, get_or, length-append, take-append-drop}
-use lib.Seq.{take-suc, take_all}
+use lib.Seq.{take-suc}
 use Rattle.text.specs.Decimal.{decimal}
 use Rattle.text.proofs.Decimals.{decimal_short}
 use Rattle.sentence.specs.Patterns.{place_mark, lead_mark, piece_text, filled}
@@ -64,6 +64,3 @@ module _ (place lead : ℕ) where
           ap length (filled_more h),
           length-append (filled place lead (take i ps)) (piece_text place lead (get_or ps i 0)),
         )
-
-    pub filled_all : length ps ≤ i → filled place lead (take i ps) ≡ filled place lead ps
-    filled_all h = ap (filled place lead) (take_all i ps h)

@@ -3,7 +3,6 @@ use mathlib.Core.Path.{◌≡◌, refl, ◌∙◌}
 use mathlib.Core.Bool.{Bool, true, false, cond, not, ◌&&◌, ◌||◌, and-eq-true_iff}
 use mathlib.Core.List.{List, [], ◌∷◌}
 use Prim.Native.Nat.{ℕ}
-use native.Mathlib.Omega.{arith}
 use borrow.Author.Tests.{not-true}
 use lib.Dec.{eqb}
 use lib.ListN.{drop}
@@ -24,8 +23,8 @@ pattern p ps e = by (is_mark p) refl e
   where
     by : (t : Bool) → is_mark p ≡ t → cond t (not (has p ps) && ends_number ps && is_pattern ps) (is_pattern ps) ≡ true → Pattern p ps
     by false m h = record {
-      once = λ k. (let z : ◌≡◌ {A = ℕ} 0 1 = cc in absurd (omega arith));
-      ends = λ k. (let z : ◌≡◌ {A = ℕ} 0 1 = cc in absurd (omega arith));
+      once = λ k. (absurd cc);
+      ends = λ k. (absurd cc);
       rest = h;
     }
     by true m h =
@@ -36,7 +35,7 @@ pattern p ps e = by (is_mark p) refl e
 -- ---- without its mark a number is 0
 
 pub or_parts : (s t : Bool) → s || t ≡ false → (s ≡ false) × (t ≡ false)
-or_parts true t e = let z : ◌≡◌ {A = ℕ} 0 1 = cc in absurd (omega arith)
+or_parts true t e = absurd cc
 or_parts false t e = (refl, e)
 
 -- a number of a match that only its mark changes

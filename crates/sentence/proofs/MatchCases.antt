@@ -66,14 +66,6 @@ module _ (ps bytes : List ℕ) where
     pub lead_later : has lead_mark (drop i ps) ≡ true → lead ≡ 0
     pub same : matched ps bytes ≡ gone_on at place lead (matched (drop i ps) (drop at bytes))
 
-  pub passed_none : is_pattern ps ≡ true → Passed 0 0 0 0
-  passed_none e =
-      let m = matched ps bytes in
-      let s : 0 + m.shared ≡ m.shared = omega arith in
-      let p : 0 + m.place ≡ m.place = omega arith in
-      let l : 0 + m.lead ≡ m.lead = omega arith in
-      record { inside = omega arith; rest = e; place_later = λ h. refl; lead_later = λ h. refl; same = rw (s, p, l) }
-
   module _ (i at place lead : ℕ) (passed : Passed i at place lead) where
     -- what follows adds nothing
     ended : (m : Match) → m.shared ≡ 0 → m.place ≡ 0 → m.lead ≡ 0 → matched (drop i ps) (drop at bytes) ≡ m
@@ -152,7 +144,7 @@ module _ (ps bytes : List ℕ) where
         found_later v l = by (eqb p mark) refl
           where
             by : (t : Bool) → eqb p mark ≡ t → cond t v number ≡ 0
-            by true e = let z : ◌≡◌ {A = ℕ} 0 1 = cc (once e) in absurd (omega arith)
+            by true e = absurd (cc (once e))
             by false e = not_found (rw (is_first, e) l)
 
         number_sum : (v n : ℕ) → (has mark later ≡ false → n ≡ 0) → number + cond (eqb p mark) v n ≡ cond (eqb p mark) v number + n

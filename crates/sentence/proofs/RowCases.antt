@@ -2,10 +2,10 @@
 use Rattle.std.proofs.Common.{◌≡◌, refl, sym, ◌∙◌, ap, Bool, true, false, cond, List, [], ◌∷◌, ℕ, ◌+◌, ◌<◌, max, length, drop, get_or, eqb, ltb, drop-cons, drop_of_length-le, add-one, arith, Result, nat_cmp, Less, Equal, Greater, is_lt, Ok, Err}
 use Rattle.std.specs.Ordering.{ord_max}
 use Rattle.std.proofs.lemmas.Bool.{ltb-true, ltb-false}
-use Rattle.std.specs.Borrow.{Bor}
 use borrow.Author.Tests.{eq-eqb, ne_eqb}
 use Rattle.refusal.specs.declared.Reason.{Reason}
 use Rattle.refusal.specs.Refused.{refused_at}
+use Rattle.sentence.specs.declared.rows.Row.{Row as Entry}
 use Rattle.sentence.specs.Patterns.{place_mark, is_empty, has}
 use Rattle.sentence.specs.Sentences.{Row, number, pattern_in}
 use Rattle.sentence.specs.Condition.{is_pattern, are_sound}
@@ -62,12 +62,9 @@ row_some n ps row = has_some place_mark ps row.place
 
 -- ---- a loop over a table
 
-abbrev pub Entry : Type 0
-Entry = Reason × Bor (List ℕ)
-
 -- an entry as a row
 abbrev pub row_at : List Entry → ℕ → Entry → Row
-row_at table i d = record { reason = (get_or table i d).0; pattern = (get_or table i d).1.now }
+row_at table i d = record { reason = (get_or table i d).reason; pattern = (get_or table i d).pattern.now }
 
 goes_on : (table : List Entry) (i : ℕ) (d : Entry) → i < length table → listed (drop i table) ≡ row_at table i d ∷ listed (drop (i + 1) table)
 goes_on table i d h = rw (add-one i) (ap listed (drop-cons table i d h))
@@ -83,9 +80,6 @@ module _ (table : List Entry) (bytes : List ℕ) where
   pub record ReadLeft (i best : ℕ) : Type 0 where
     pub sound : are_sound (listed (drop i table)) ≡ true
     pub same : read_from (listed table) 0 bytes ≡ read_from (listed (drop i table)) best bytes
-
-  pub read_start : are_sound (listed table) ≡ true → ReadLeft 0 0
-  read_start e = record { sound = e; same = refl }
 
   pub read_none : (i best : ℕ) → ReadLeft i best → i ≡ length table → Err (refused_at Reason.Sentence best) ≡ read_from (listed table) 0 bytes
   unfolding read_from
@@ -104,16 +98,16 @@ module _ (table : List Entry) (bytes : List ℕ) where
     from_row : read_from (listed table) 0 bytes ≡ read_from (row ∷ later) best bytes
     from_row = r.same ∙ ap (λ (l : List Row). read_from l best bytes) (goes_on table i d h)
 
-    pub row_pattern : is_pattern (get_or table i d).1.now ≡ true
+    pub row_pattern : is_pattern (get_or table i d).pattern.now ≡ true
     row_pattern = top.row.pattern
 
-    pub read_found : (place lead : ℕ) → Ok (place, lead) ≡ told (matched (get_or table i d).1.now bytes)
-        → Ok (record { reason = (get_or table i d).0; place = place; lead = lead }) ≡ read_from (listed table) 0 bytes
+    pub read_found : (place lead : ℕ) → Ok (place, lead) ≡ told (matched (get_or table i d).pattern.now bytes)
+        → Ok (record { reason = (get_or table i d).reason; place = place; lead = lead }) ≡ read_from (listed table) 0 bytes
     read_found place lead e =
         let t = told_whole (matched row.pattern bytes) place lead (sym e) in
         sym (from_row ∙ read_here row later best bytes t.0 ∙ (rw (t.1, t.2)))
 
-    pub read_more : (shared : ℕ) → Err shared ≡ told (matched (get_or table i d).1.now bytes) → ReadLeft (i + 1) (max best shared)
+    pub read_more : (shared : ℕ) → Err shared ≡ told (matched (get_or table i d).pattern.now bytes) → ReadLeft (i + 1) (max best shared)
     read_more shared e =
         let t = told_part (matched row.pattern bytes) shared (sym e) in
         record {
@@ -128,9 +122,6 @@ module _ (table : List Entry) (n : ℕ) where
   pub record PatternLeft (i : ℕ) : Type 0 where
     pub sound : are_sound (listed (drop i table)) ≡ true
     pub same : pattern_in (listed table) n ≡ pattern_in (listed (drop i table)) n
-
-  pub pattern_start : are_sound (listed table) ≡ true → PatternLeft 0
-  pattern_start e = record { sound = e; same = refl }
 
   pub pattern_none : (i : ℕ) → PatternLeft i → i ≡ length table → pattern_in (listed table) n ≡ []
   unfolding pattern_in
@@ -149,7 +140,7 @@ module _ (table : List Entry) (n : ℕ) where
     from_first : pattern_in (listed table) n ≡ pattern_in (entry ∷ rest) n
     from_first = r.same ∙ ap (λ (l : List Row). pattern_in l n) (goes_on table i d h)
 
-    pub pattern_found : number entry ≡ n → IsPatternOf n (listed table) (get_or table i d).1.now
+    pub pattern_found : number entry ≡ n → IsPatternOf n (listed table) (get_or table i d).pattern.now
     unfolding pattern_in
     pattern_found e = record { same = sym (from_first ∙ (rw (eq-eqb (number entry) n e))); some = row_some (number entry) entry.pattern first_left.row }
 

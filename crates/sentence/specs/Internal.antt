@@ -1,14 +1,13 @@
 -- What only private contracts need: rows as the code has them, and what a piece and a match are told as.
 use Rattle.std.specs.Prelude.{◌≡◌, false, cond, Option, Some, None, Result, Ok, Err, List, ℕ, map, eqb}
-use Rattle.std.specs.Borrow.{Bor}
-use Rattle.refusal.specs.declared.Reason.{Reason}
+use Rattle.sentence.specs.declared.rows.Row.{Row as Entry}
 use Rattle.sentence.specs.Patterns.{is_empty}
 use Rattle.sentence.specs.Sentences.{Row, pattern_in}
 use Rattle.sentence.specs.Reading.{Scanned, Match}
 
--- the rows of a table of the code
-abbrev pub listed : List (Reason × Bor (List ℕ)) → List Row
-listed table = map (λ r. record { reason = r.0; pattern = r.1.now }) table
+-- the rows of the code's table
+abbrev pub listed : List Entry → List Row
+listed table = map (λ r. record { reason = r.reason; pattern = r.pattern.now }) table
 
 -- a row of the number has the pattern
 pub record IsPatternOf (n : ℕ) (rows : List Row) (pattern : List ℕ) : Type 0 where

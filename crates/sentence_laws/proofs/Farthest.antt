@@ -85,5 +85,5 @@ refused_farthest (r ∷ rs) e best bytes q h = by m.whole refl (refused_farthest
 
     by : (t : Bool) → m.whole ≡ t
         → (read_from rs (max best m.shared) bytes ≡ Err q → Farthest rs (max best m.shared) bytes q) → Farthest (r ∷ rs) best bytes q
-    by true w ih = let z : ◌≡◌ {A = ℕ} 0 1 = cc (read_here r rs best bytes w) in absurd (omega arith)
+    by true w ih = absurd (cc (read_here r rs best bytes w))
     by false w ih = one_more r rs f best bytes q (ih (sym (read_later r rs best bytes w) ∙ h))

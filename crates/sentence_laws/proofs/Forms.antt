@@ -91,7 +91,7 @@ module _ (q l : ℕ) where
 begins_split : (xs ys : List ℕ) → begins_with xs ys ≡ true → (words : List ℕ) × (ys ≡ xs ++ words)
 unfolding begins_with
 begins_split [] ys e = (ys, refl)
-begins_split (x ∷ xs) [] e = let z : ◌≡◌ {A = ℕ} 0 1 = cc in absurd (omega arith)
+begins_split (x ∷ xs) [] e = absurd cc
 begins_split (x ∷ xs) (y ∷ ys) e =
     let both = (and-eq-true_iff (eqb x y) (begins_with xs ys)).0 e in
     let (words, same) = begins_split xs ys both.1 in

@@ -50,7 +50,7 @@ module _ (rows : List Row) (x : Refusal) where
 
 pub none_known : (x : Refusal) → Known [] x → ⊥
 unfolding pattern_in is_empty
-none_known x k = let z : ◌≡◌ {A = ℕ} 0 1 = cc k.some in omega arith
+none_known x k = cc k.some
 
 -- ---- by the first row, or by those after it
 

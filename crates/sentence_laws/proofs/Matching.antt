@@ -102,7 +102,7 @@ match_agrees [] e bytes = record { reached = shared_nothing bytes; all = by byte
   where
     by : (b : List ℕ) → is_empty b ≡ true → b ≡ []
     by [] h = refl
-    by (c ∷ b) h = let z : ◌≡◌ {A = ℕ} 0 1 = cc in absurd (omega arith)
+    by (c ∷ b) h = absurd cc
 match_agrees (p ∷ ps) e bytes = by (eqb s.count 0) refl (match_agrees ps parts.rest left)
   where
     parts : Pattern p ps
@@ -128,7 +128,7 @@ match_agrees (p ∷ ps) e bytes = by (eqb s.count 0) refl (match_agrees ps parts
         let none : with_piece p s more ≡ no_match = piece_none p s more z in
         rw none (record {
           reached = omega (arith, match_most 0 0 (omega arith) (omega arith) (p ∷ ps) e bytes, ap (λ (m : Match). m.shared) none);
-          all = λ h. (let z : ◌≡◌ {A = ℕ} 0 1 = cc in absurd (omega arith));
+          all = λ h. (absurd cc);
         })
     by false z r =
         let text : piece_text both.place both.lead p ≡ taken = piece_taken p both.place both.lead bytes z (λ h. rw h) (λ h. rw h) in

@@ -24,7 +24,7 @@ pub record Taken (limit : ℕ) (bytes : List ℕ) (s : Scanned) : Type 0 where
   pub fits : s.value ≤ limit
 
 nothing_taken : (limit : ℕ) (bytes : List ℕ) → Taken limit bytes (record { count = 0; value = 0 })
-nothing_taken limit bytes = record { text = λ e. (let z : ◌≡◌ {A = ℕ} 0 1 = cc in absurd (omega arith)); fits = omega arith }
+nothing_taken limit bytes = record { text = λ e. (absurd cc); fits = omega arith }
 
 pub number_taken : (limit : ℕ) (bytes : List ℕ) → Taken limit bytes (scan_from limit false 0 bytes)
 unfolding scan_from

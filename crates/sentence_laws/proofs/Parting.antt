@@ -3,7 +3,6 @@ use mathlib.Core.Path.{◌≡◌, refl, sym, ◌∙◌, ap}
 use mathlib.Core.Bool.{Bool, true, false, not, ◌&&◌, ◌||◌, and-eq-true_iff}
 use mathlib.Core.List.{List, [], ◌∷◌, ◌++◌}
 use Prim.Native.Nat.{ℕ}
-use native.Mathlib.Omega.{arith}
 use borrow.Author.Tests.{eqb-false, not-true}
 use lib.Dec.{eqb}
 use Rattle.sentence.specs.Patterns.{filled}
@@ -14,8 +13,8 @@ use Rattle.sentence_laws.proofs.Matching.{match_agrees}
 
 texts_differ : (a b c d : ℕ) (ps qs : List ℕ) → part ps qs ≡ true → filled a b ps ≡ filled c d qs → ⊥
 unfolding part filled
-texts_differ a b c d [] qs e h = let z : ◌≡◌ {A = ℕ} 0 1 = cc in omega arith
-texts_differ a b c d (p ∷ ps) [] e h = let z : ◌≡◌ {A = ℕ} 0 1 = cc in omega arith
+texts_differ a b c d [] qs e h = cc
+texts_differ a b c d (p ∷ ps) [] e h = cc
 texts_differ a b c d (p ∷ ps) (q ∷ qs) e h = by (eqb p q) refl both.1 (texts_differ a b c d ps qs)
   where
     both : (not (is_mark p) && not (is_mark q) ≡ true) × (not (eqb p q) || part ps qs ≡ true)

@@ -28,18 +28,18 @@ module _ (p : ℕ) (bytes : List ℕ) where
   piece_lead f = by (kind p)
     where
       by : Kind p → (piece p bytes).value ≤ most_lead
-      by (Kind.place e g) = let z : ◌≡◌ {A = ℕ} 0 1 = cc in absurd (omega arith)
+      by (Kind.place e g) = absurd cc
       by (Kind.lead e g) = rw (e, f) (number_taken most_lead bytes).fits
-      by (Kind.text e g) = let z : ◌≡◌ {A = ℕ} 0 1 = cc in absurd (omega arith)
+      by (Kind.text e g) = absurd cc
 
 byte_taken : (p : ℕ) (bytes : List ℕ) → eqb (cond (starts_with p bytes) 1 0) 0 ≡ false → p ∷ [] ≡ take (cond (starts_with p bytes) 1 0) bytes
 unfolding starts_with
-byte_taken p [] s = let z : ◌≡◌ {A = ℕ} 0 1 = cc in absurd (omega arith)
+byte_taken p [] s = absurd cc
 byte_taken p (c ∷ cs) s = by (eqb c p) refl s
   where
     by : (t : Bool) → eqb c p ≡ t → eqb (cond t 1 0) 0 ≡ false → p ∷ [] ≡ take (cond t 1 0) (c ∷ cs)
     by true e s = ap (λ (n : ℕ). n ∷ []) (sym (eqb-true c p e))
-    by false e s = let z : ◌≡◌ {A = ℕ} 0 1 = cc in absurd (omega arith)
+    by false e s = absurd cc
 
 -- the bytes taken are the text of it with the number in them
 pub piece_taken : (p q l : ℕ) (bytes : List ℕ) → eqb (piece p bytes).count 0 ≡ false → (eqb p place_mark ≡ true → q ≡ (piece p bytes).value)

@@ -76,7 +76,7 @@ sentence_read (r ∷ rs) e x k best bytes h = by (known_where r rs x k) (sentenc
 pub read_sentence_lem : (rows : List Row) → are_sound rows ≡ true → (best : ℕ) (bytes : List ℕ) (x : Refusal) → read_from rows best bytes ≡ Ok x
     → Known rows x × (bytes ≡ sentence_in rows x)
 unfolding read_from
-read_sentence_lem [] e best bytes x h = let z : ◌≡◌ {A = ℕ} 0 1 = cc in absurd (omega arith)
+read_sentence_lem [] e best bytes x h = absurd cc
 read_sentence_lem (r ∷ rs) e best bytes x h = by m.whole refl (read_sentence_lem rs f.rest (max best m.shared) bytes x)
   where
     f : First r rs

@@ -29,14 +29,13 @@ shared_plain c cs (d ∷ rest) e p = by (eqb c d) refl
     by true q =
         let same : c ≡ d = eqb-true c d q in
         let other : is_digit d ≡ false = not-true (is_digit d) p in
-        let z : ◌≡◌ {A = ℕ} 0 1 = cc in
-        absurd (omega arith)
+        absurd cc
     by false q = refl
 
 -- ---- a number that is begun is above 0
 
 begun_above : (v : ℕ) → true && eqb v 0 ≡ false → 1 ≤ v
-begun_above zero e = let z : ◌≡◌ {A = ℕ} 0 1 = cc in absurd (omega arith)
+begun_above zero e = absurd cc
 begun_above (suc v) e = omega arith
 
 above_begun : (v : ℕ) → 1 ≤ v → true && eqb v 0 ≡ false
@@ -59,7 +58,7 @@ module _ (limit : ℕ) (rest : List ℕ) (ends : plain rest ≡ true) where
       → scan_from limit true v (ds ++ rest) ≡ record { count = length ds; value = value_from v ds }
   unfolding scan_from every value_from
   scan_whole [] v g e h = scan_plain limit v rest ends
-  scan_whole (d ∷ ds) v (inr g) e h = let z : ◌≡◌ {A = ℕ} 0 1 = cc in absurd (omega arith)
+  scan_whole (d ∷ ds) v (inr g) e h = absurd cc
   scan_whole (d ∷ ds) v (inl g) e h =
       let both = (and-eq-true_iff (is_digit d) (every is_digit ds)).0 e in
       let step : Follows limit true v d =
@@ -78,7 +77,7 @@ module _ (limit : ℕ) (rest : List ℕ) (ends : plain rest ≡ true) where
             → shared (c ∷ cs) rest ≤ reaches most (cond t (one_more (scan_from limit true (10 * v + (c - 48)) cs)) (record { count = 0; value = v })) (c ∷ cs)
         by true p = omega (arith, shared_plain c cs rest (follows limit true v c p).digit ends)
         by false p = omega (arith, bound (c ∷ cs))
-    scan_most (d ∷ ds) v (c ∷ cs) (inr g) e h = let z : ◌≡◌ {A = ℕ} 0 1 = cc in absurd (omega arith)
+    scan_most (d ∷ ds) v (c ∷ cs) (inr g) e h = absurd cc
     scan_most (d ∷ ds) v (c ∷ cs) (inl g) e h = by (eqb c d) refl (scan_most ds (10 * v + (c - 48)) cs (inl (omega arith)) both.1)
       where
         both : (is_digit d ≡ true) × (every is_digit ds ≡ true)

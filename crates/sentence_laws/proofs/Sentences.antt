@@ -77,7 +77,7 @@ unfolding read_sentence
 read_none bytes q e =
     let f = refused_farthest sentences sound 0 bytes q e in
     record {
-      none = λ r s. (let z : ◌≡◌ {A = ℕ} 0 1 = cc (known_read bytes r s) in omega arith);
+      none = λ r s. cc (known_read bytes r s);
       reason = f.reason;
       place = longest bytes q f;
       lead = f.lead;

@@ -3,7 +3,6 @@ use mathlib.Core.Path.{◌≡◌, refl}
 use mathlib.Core.Bool.{Bool, true, false, cond, not, ◌&&◌, and-eq-true_iff}
 use mathlib.Core.List.{List, [], ◌∷◌}
 use Prim.Native.Nat.{ℕ}
-use native.Mathlib.Omega.{arith}
 use borrow.Author.Tests.{eqb-true, not-true}
 use lib.Dec.{eqb}
 use Rattle.sentence.specs.Patterns.{is_empty}
@@ -16,7 +15,7 @@ use Rattle.sentence.proofs.Soundness.{IsRow, First, first}
 pub row_of : (rows : List Row) (n : ℕ) → are_sound rows ≡ true → is_empty (pattern_in rows n) ≡ false
     → IsRow n (pattern_in rows n)
 unfolding pattern_in is_empty
-row_of [] n e h = let z : ◌≡◌ {A = ℕ} 0 1 = cc in absurd (omega arith)
+row_of [] n e h = absurd cc
 row_of (r ∷ rs) n e h = by (eqb (number r) n) refl h (row_of rs n f.rest)
   where
     f : First r rs
@@ -37,7 +36,7 @@ pub record Apart (r : Row) (n : ℕ) (ps : List ℕ) : Type 0 where
 
 pub apart_from : (r : Row) (rs : List Row) (n : ℕ) → is_apart r rs ≡ true → is_empty (pattern_in rs n) ≡ false → Apart r n (pattern_in rs n)
 unfolding is_apart pattern_in is_empty
-apart_from r [] n e h = let z : ◌≡◌ {A = ℕ} 0 1 = cc in absurd (omega arith)
+apart_from r [] n e h = absurd cc
 apart_from r (s ∷ rs) n e h = by (eqb (number s) n) refl h (apart_from r rs n a.1)
   where
     a : (not (eqb (number r) (number s)) && part r.pattern s.pattern ≡ true) × (is_apart r rs ≡ true)

@@ -24,10 +24,8 @@ returns-in_default c =
 own : (c : In-Some) → c.in-Some.pattern.now ≡ pattern_in sentences c.args.number
 own c = let h = c.in-Some.ensures in h.same ∙ ap (λ (l : List Row). pattern_in l c.args.number) c.table.ensures
 
-pub write-requires : goal.write-requires
-write-requires c =
-    let h = c.in-Some.ensures in
-    record { some = h.some; short = omega (arith, ap length (own (goal.at.write-requires c).In-Some), pattern_short c.args.number) }
+pub write-requires-clause-short : goal.write-requires-clause-short
+write-requires-clause-short c = omega (arith, ap length (own (goal.at.write-requires-clause-short c).In-Some), pattern_short c.args.number)
 
 pub returns : goal.returns
 unfolding write_sentence sentence_into

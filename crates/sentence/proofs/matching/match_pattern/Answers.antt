@@ -1,18 +1,9 @@
 -- Before each turn the bytes of the pattern that are passed took the bytes that are passed.
 use Rattle.std.proofs.Common.{◌≡◌, refl, sym, ◌∙◌, ◌+◌, cond, eqb, get_or, arith}
 use Rattle.sentence.specs.Patterns.{place_mark, lead_mark}
-use Rattle.sentence.proofs.MatchCases.{Passed, passed_none, told_piece, told_none, marked, unmarked, elsewhere, match_whole, match_part, match_stops, match_more}
+use Rattle.sentence.proofs.MatchCases.{Passed, told_piece, told_none, marked, unmarked, elsewhere, match_whole, match_part, match_stops, match_more}
 use Rattle.sentence.proofs.matching.match_pattern.Goals as goal
 use Rattle.sentence.proofs.matching.match_pattern.Goals.{Joined-p, in-35, in-37, in_default-p}
-
-pub loop-p-init : goal.loop-p-init
-loop-p-init c = passed_none c.args.pattern.now c.args.bytes.now c.requires
-
-pub slice_bounds-take_piece-count : goal.slice_bounds-take_piece-count
-slice_bounds-take_piece-count c = c.loop-p.invariant.inside
-
-pub slice_bounds-take_piece-start : goal.slice_bounds-take_piece-start
-slice_bounds-take_piece-start c = slice_bounds-take_piece-count c
 
 pub returns-in_default : goal.returns-in_default
 returns-in_default c =

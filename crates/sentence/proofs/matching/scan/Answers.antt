@@ -10,9 +10,6 @@ loop-c-init c = (refl, omega arith, scans_none c.args.limit c.args.bytes.now)
 pub overflow_sub-c : goal.overflow_sub-c
 overflow_sub-c c = (told_digit _ _ _ _ c.may_follow.ensures c.if-not-may_follow.false).0
 
-pub overflow_add-value : goal.overflow_add-value
-overflow_add-value c = omega (arith, c.from.ensures, (told_follows _ _ _ _ c.may_follow.ensures c.if-not-may_follow.false).fits)
-
 pub loop-c-preserved : goal.loop-c-preserved
 loop-c-preserved c =
     let l = c.loop-c in

@@ -2,5 +2,5 @@
 use Rattle.sentence.proofs.RowCases.{PatternLeft}
 use Rattle.sentence.proofs.rows.pattern_of.Given as goal
 
-abbrev pub invariant-loop-reason : goal.invariant-loop-reason
-invariant-loop-reason l = PatternLeft l.rows l.number l.reason-index
+abbrev pub invariant-loop-row : goal.invariant-loop-row
+invariant-loop-row l = PatternLeft l.rows l.number l.row-index

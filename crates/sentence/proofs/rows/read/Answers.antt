@@ -1,30 +1,27 @@
 -- Before each turn the rows that are left decide what the bytes are read as.
 use Rattle.std.proofs.Common.{◌∙◌, sym, ap, arith, Err}
-use Rattle.sentence.proofs.RowCases.{max_is, read_start, read_none, row_pattern, read_found, read_more}
+use Rattle.sentence.proofs.RowCases.{max_is, read_none, row_pattern, read_found, read_more}
 use Rattle.sentence.proofs.rows.read.Goals as goal
-
-pub loop-reason-init : goal.loop-reason-init
-loop-reason-init c = read_start c.args.rows.now c.args.bytes.now c.requires
 
 pub match_pattern-requires : goal.match_pattern-requires
 match_pattern-requires c =
-    let l = c.loop-reason in
-    row_pattern c.args.rows.now c.args.bytes.now l.reason-index l.best l.invariant _ c.loop-reason-test.true
+    let l = c.loop-row in
+    row_pattern c.args.rows.now c.args.bytes.now l.row-index l.best l.invariant _ c.loop-row-test.true
 
 pub returns-in-Ok : goal.returns-in-Ok
 returns-in-Ok c =
-    let l = c.loop-reason in
-    read_found c.args.rows.now c.args.bytes.now l.reason-index l.best l.invariant _ c.loop-reason-test.true c.in-Ok.place c.in-Ok.lead
+    let l = c.loop-row in
+    read_found c.args.rows.now c.args.bytes.now l.row-index l.best l.invariant _ c.loop-row-test.true c.in-Ok.place c.in-Ok.lead
     (sym c.in-Ok.is ∙ c.match_pattern.ensures)
 
-pub loop-reason-preserved : goal.loop-reason-preserved
-loop-reason-preserved c =
-    let l = c.loop-reason in
+pub loop-row-preserved : goal.loop-row-preserved
+loop-row-preserved c =
+    let l = c.loop-row in
     rw (c.max-best.ensures, max_is l.best c.in-Err.shared)
-    (read_more c.args.rows.now c.args.bytes.now l.reason-index l.best l.invariant _ c.loop-reason-test.true c.in-Err.shared
+    (read_more c.args.rows.now c.args.bytes.now l.row-index l.best l.invariant _ c.loop-row-test.true c.in-Err.shared
     (sym c.in-Err.is ∙ c.match_pattern.ensures))
 
 pub returns : goal.returns
 returns c =
-    let l = c.loop-reason in
-    ap Err c.at.ensures ∙ read_none c.args.rows.now c.args.bytes.now l.reason-index l.best l.invariant (omega arith)
+    let l = c.loop-row in
+    ap Err c.at.ensures ∙ read_none c.args.rows.now c.args.bytes.now l.row-index l.best l.invariant (omega arith)

@@ -2,5 +2,5 @@
 use Rattle.sentence.proofs.RowCases.{ReadLeft}
 use Rattle.sentence.proofs.rows.read.Given as goal
 
-abbrev pub invariant-loop-reason : goal.invariant-loop-reason
-invariant-loop-reason l = ReadLeft l.rows l.bytes l.reason-index l.best
+abbrev pub invariant-loop-row : goal.invariant-loop-row
+invariant-loop-row l = ReadLeft l.rows l.bytes l.row-index l.best

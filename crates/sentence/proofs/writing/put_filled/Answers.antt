@@ -2,7 +2,7 @@
 use Rattle.std.proofs.Common.{◌+◌, ◌≤◌, length, get_or, arith}
 use Rattle.text.proofs.Puts.{put_none, put_as, put_after, put_within, put_rest}
 use Rattle.sentence.specs.Patterns.{piece_text, filled}
-use Rattle.sentence.proofs.Fillings.{filled_more, filled_room, filled_all}
+use Rattle.sentence.proofs.Fillings.{filled_more, filled_room}
 use Rattle.sentence.proofs.writing.put_filled.Goals as goal
 use Rattle.sentence.proofs.writing.put_filled.Goals.{In-loop-p}
 
@@ -34,9 +34,3 @@ loop-p-preserved c =
     let e = c.put_piece-at.ensures in
     put_as c.args.out.now (filled_more c.args.place c.args.lead c.args.pattern.now l.p-index c.loop-p-test.true)
     (put_after _ _ l.invariant _ (put_rest _ _ l.invariant _ (room (goal.at.loop-p-preserved c).In-loop-p) (e.answer, e.output)))
-
-pub returns : goal.returns
-returns c =
-    let l = c.loop-p in
-    let put = rw (filled_all c.args.place c.args.lead c.args.pattern.now l.p-index (omega arith)) at l.invariant in
-    record { answer = put.0; output = put.1 }
