@@ -8,7 +8,7 @@ use block_decoder::GREATEST_WEIGHT;
 use chain::MISSING;
 
 // D, as far as 32 bits hold it.
-#[tactic(auto, using(lists::proofs::Sums::total_more), unfolding(lists::specs::Caps::capped, lists::specs::Sums::total, demands::specs::Demand::damage_in))]
+#[tactic(auto, unfolding(lists::specs::Caps::capped, lists::specs::Sums::total, demands::specs::Demand::damage_in))]
 pub fn damage_in(sent: &[u16], heard: &[u16], weights: &[u8]) -> u32
     ensures { result ≡ capped (damage_in 15 sent.now heard.now weights.now) }
 {

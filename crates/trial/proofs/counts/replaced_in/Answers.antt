@@ -9,7 +9,7 @@ use Rattle.trial.proofs.counts.replaced_in.Goals as goal
 pub returns : goal.returns
 returns c =
     let a = c.args in
-    count_from_yields_List _ _ c.count.ensures.ran
+    count_from_yields_List c.filter.result c.count.result c.count.ensures.ran
     (YieldsList-from_filter _ replaced
     (YieldsList-from_zip (YieldsList-from_slice a.sent.now cc) (YieldsList-from_slice a.heard.now cc))
     c.filter.ensures.closure (λ x r q k. search (rules, tests)))
