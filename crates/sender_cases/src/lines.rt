@@ -1,6 +1,6 @@
 // The lines of the output: what each call answers.
 use refusal::Refusal;
-use sender::Sender;
+use sender::{SIZE, Sender, Served};
 use std::io;
 
 pub fn end(rt: &impl Print) -> io::Result<()> {
@@ -12,34 +12,18 @@ pub fn depot(rt: &impl Print, depot: u32) -> io::Result<()> {
 }
 
 fn refused(rt: &impl Print, refusal: Refusal) -> io::Result<()> {
-    let number = refusal.number;
-    let place = refusal.place;
-    print!(rt; " refused {number} at {place}")
+    print!(rt; " refused {} at {}", refusal.reason.number(), refusal.place)
 }
 
 // A block whose first code is its number, and whose other codes are its depot's number. The modes go round with the depots.
 pub fn hand_in(rt: &impl Print, sender: Sender, depot: u32, number: u32) -> io::Result<Sender> {
-    let other = (depot % 128) as u8;
-    let codes = [
-        (number % 128) as u8,
-        other,
-        other,
-        other,
-        other,
-        other,
-        other,
-        other,
-    ];
+    let mut codes = [(depot % 128) as u8; 8];
+    codes[0] = (number % 128) as u8;
     let count = (depot % 8) as usize + 1;
     let after = sender.hand_in(depot, depot % 8 + 1, &codes[..count]);
-    let answer = after.answer;
-    match answer {
-        Ok(()) => {
-            print!(rt; " taken")?;
-        }
-        Err(refusal) => {
-            refused(rt, refusal)?;
-        }
+    match after.answer {
+        Ok(()) => print!(rt; " taken")?,
+        Err(refusal) => refused(rt, refusal)?,
     }
     Ok(after.sender)
 }
@@ -48,19 +32,14 @@ pub fn hand_in(rt: &impl Print, sender: Sender, depot: u32, number: u32) -> io::
 pub fn send(rt: &impl Print, sender: Sender) -> io::Result<Sender> {
     let mut tones = [0u16; 64];
     let after = sender.send(&mut tones);
-    let answer = after.answer;
     print!(rt; "send:")?;
-    match answer {
-        Sent::Block(depot, mode) => {
+    match after.answer {
+        Ok(Some(Served { depot, mode })) => {
             print!(rt; " depot {depot} mode {mode}")?;
             codes(rt, mode, &tones)?;
         }
-        Ok(None) => {
-            print!(rt; " none waiting")?;
-        }
-        Err(refusal) => {
-            refused(rt, refusal)?;
-        }
+        Ok(None) => print!(rt; " none waiting")?,
+        Err(refusal) => refused(rt, refusal)?,
     }
     end(rt)?;
     Ok(after.sender)
@@ -70,13 +49,10 @@ fn codes(rt: &impl Print, mode: u32, tones: &[u16]) -> io::Result<()> {
     let mut codes = [255u8; 8];
     block_decoder::decode_block(mode, 64, tones, &mut codes);
     print!(rt; " codes")?;
-    let mut q: usize = 0;
-    while q < 8 {
-        let code = codes[q];
+    for code in codes {
         if code < 128 {
             print!(rt; " {code}")?;
         }
-        q += 1;
     }
     Ok(())
 }
@@ -85,33 +61,21 @@ fn codes(rt: &impl Print, mode: u32, tones: &[u16]) -> io::Result<()> {
 pub fn short_send(rt: &impl Print, sender: Sender) -> io::Result<Sender> {
     let mut tones = [0u16; 63];
     let after = sender.send(&mut tones);
-    let answer = after.answer;
     print!(rt; "send into 63 tones:")?;
-    match answer {
-        Err(refusal) => {
-            refused(rt, refusal)?;
-        }
-        Sent::Block(_, _) => {
-            print!(rt; " sent")?;
-        }
-        Ok(None) => {
-            print!(rt; " none waiting")?;
-        }
+    match after.answer {
+        Ok(Some(_)) => print!(rt; " sent")?,
+        Ok(None) => print!(rt; " none waiting")?,
+        Err(refusal) => refused(rt, refusal)?,
     }
     end(rt)?;
     Ok(after.sender)
 }
 
 // How many blocks each depot has waiting, how many all together, and whose turn it is.
-pub fn counts(rt: &impl Print, bytes: &[u8; 1532]) -> io::Result<()> {
+pub fn counts(rt: &impl Print, bytes: &[u8; SIZE]) -> io::Result<()> {
     print!(rt; "waiting:")?;
-    let mut d: usize = 0;
-    while d < 30 {
-        let waiting = bytes[1500 + d];
+    for waiting in &bytes[1500..1530] {
         print!(rt; " {waiting}")?;
-        d += 1;
     }
-    let all = bytes[1530];
-    let turn = bytes[1531];
-    println!(rt; ", in all {all}, turn {turn}")
+    println!(rt; ", in all {}, turn {}", bytes[1530], bytes[1531])
 }

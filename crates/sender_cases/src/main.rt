@@ -19,10 +19,8 @@ fn main(rt: HostRuntime) -> io::Result<()> {
 // Each depot in turn hands in its blocks with these numbers: a line for each depot.
 fn every_depot(rt: &impl Print, sender: Sender, first: u32, end: u32) -> io::Result<Sender> {
     let mut s = sender;
-    let mut depot: u32 = 0;
-    while depot < 30 {
+    for depot in 0..30 {
         s = handed_in(rt, s, depot, first, end)?;
-        depot += 1;
     }
     lines::counts(rt, &s.bytes)?;
     Ok(s)
@@ -37,11 +35,9 @@ fn handed_in(
     end: u32,
 ) -> io::Result<Sender> {
     let mut s = sender;
-    let mut number = first;
     lines::depot(rt, depot)?;
-    while number < end {
+    for number in first..end {
         s = lines::hand_in(rt, s, depot, number)?;
-        number += 1;
     }
     lines::end(rt)?;
     Ok(s)
@@ -50,10 +46,8 @@ fn handed_in(
 // So many sends, a line for each.
 fn sent(rt: &impl Print, sender: Sender, sends: u32) -> io::Result<Sender> {
     let mut s = sender;
-    let mut k: u32 = 0;
-    while k < sends {
+    for _ in 0..sends {
         s = lines::send(rt, s)?;
-        k += 1;
     }
     lines::counts(rt, &s.bytes)?;
     Ok(s)
