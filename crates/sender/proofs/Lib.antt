@@ -11,3 +11,4 @@ pub mod Storing
 pub mod Serving
 pub mod HandingIn
 pub mod SendingOut
+pub mod Searches

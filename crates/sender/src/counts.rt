@@ -56,10 +56,5 @@ pub fn ahead(state: &[u8; SIZE], turn: usize) -> Option<usize>
     requires { turn < 30 }
     ensures { result ≡ found 30 (ahead turn (counts_in state.now)) }
 {
-    for k in 0..30 {
-        if 0 < state[COUNTS + (turn + k) % 30] {
-            return Some(k);
-        }
-    }
-    None
+    (0..30).find(|&k| 0 < state[COUNTS + (turn + k) % 30])
 }

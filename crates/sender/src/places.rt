@@ -10,8 +10,9 @@ pub fn put(state: &mut [u8; SIZE], place: usize, depot: u8, mode: u8, codes: &[u
     requires { (place < 150) × (length codes.now ≤ 8) }
     ensures { Put state.old place depot (record { mode = mode; codes = codes.now }) state.new }
 {
-    let from = 10 * place + 2;
-    state[from..from + codes.len()].copy_from_slice(codes);
+    for q in 0..codes.len() {
+        state[10 * place + 2 + q] = codes[q];
+    }
     state[10 * place] = depot;
     state[10 * place + 1] = mode;
 }
@@ -29,12 +30,7 @@ pub fn place_of(state: &[u8; SIZE], count: usize, depot: u8) -> Option<usize>
     ensures place { result ≡ found count (place_with depot state.now count) }
     ensures below { IfSome result (λ at. at < count) }
 {
-    for i in 0..count {
-        if state[10 * i] == depot {
-            return Some(i);
-        }
-    }
-    None
+    (0..count).find(|&i| state[10 * i] == depot)
 }
 
 // Moves the places after one of them up.

@@ -1,6 +1,6 @@
 // The lines of the output: what each call answers.
 use refusal::Refusal;
-use sender::Sender;
+use sender::{SIZE, Sender, Served};
 use std::io;
 
 pub fn end(rt: &impl Print) -> io::Result<()> {
@@ -12,8 +12,7 @@ pub fn depot(rt: &impl Print, depot: u32) -> io::Result<()> {
 }
 
 fn refused(rt: &impl Print, refusal: Refusal) -> io::Result<()> {
-    let Refusal { number, place, .. } = refusal;
-    print!(rt; " refused {number} at {place}")
+    print!(rt; " refused {} at {}", refusal.reason.number(), refusal.place)
 }
 
 // A block whose first code is its number, and whose other codes are its depot's number. The modes go round with the depots.
@@ -35,7 +34,7 @@ pub fn send(rt: &impl Print, sender: Sender) -> io::Result<Sender> {
     let after = sender.send(&mut tones);
     print!(rt; "send:")?;
     match after.answer {
-        Sent::Block(depot, mode) => {
+        Ok(Some(Served { depot, mode })) => {
             print!(rt; " depot {depot} mode {mode}")?;
             codes(rt, mode, &tones)?;
         }
@@ -64,21 +63,19 @@ pub fn short_send(rt: &impl Print, sender: Sender) -> io::Result<Sender> {
     let after = sender.send(&mut tones);
     print!(rt; "send into 63 tones:")?;
     match after.answer {
-        Err(refusal) => refused(rt, refusal)?,
-        Sent::Block(_, _) => print!(rt; " sent")?,
+        Ok(Some(_)) => print!(rt; " sent")?,
         Ok(None) => print!(rt; " none waiting")?,
+        Err(refusal) => refused(rt, refusal)?,
     }
     end(rt)?;
     Ok(after.sender)
 }
 
 // How many blocks each depot has waiting, how many all together, and whose turn it is.
-pub fn counts(rt: &impl Print, bytes: &[u8; 1532]) -> io::Result<()> {
+pub fn counts(rt: &impl Print, bytes: &[u8; SIZE]) -> io::Result<()> {
     print!(rt; "waiting:")?;
     for waiting in &bytes[1500..1530] {
         print!(rt; " {waiting}")?;
     }
-    let all = bytes[1530];
-    let turn = bytes[1531];
-    println!(rt; ", in all {all}, turn {turn}")
+    println!(rt; ", in all {}, turn {}", bytes[1530], bytes[1531])
 }

@@ -17,35 +17,38 @@ fn main(rt: HostRuntime) -> io::Result<()> {
 }
 
 // Each depot in turn hands in its blocks with these numbers: a line for each depot.
-fn every_depot(rt: &impl Print, mut sender: Sender, first: u32, end: u32) -> io::Result<Sender> {
+fn every_depot(rt: &impl Print, sender: Sender, first: u32, end: u32) -> io::Result<Sender> {
+    let mut s = sender;
     for depot in 0..30 {
-        sender = handed_in(rt, sender, depot, first, end)?;
+        s = handed_in(rt, s, depot, first, end)?;
     }
-    lines::counts(rt, &sender.bytes)?;
-    Ok(sender)
+    lines::counts(rt, &s.bytes)?;
+    Ok(s)
 }
 
 // A depot hands in its blocks with the numbers from first up to end.
 fn handed_in(
     rt: &impl Print,
-    mut sender: Sender,
+    sender: Sender,
     depot: u32,
     first: u32,
     end: u32,
 ) -> io::Result<Sender> {
+    let mut s = sender;
     lines::depot(rt, depot)?;
     for number in first..end {
-        sender = lines::hand_in(rt, sender, depot, number)?;
+        s = lines::hand_in(rt, s, depot, number)?;
     }
     lines::end(rt)?;
-    Ok(sender)
+    Ok(s)
 }
 
 // So many sends, a line for each.
-fn sent(rt: &impl Print, mut sender: Sender, sends: u32) -> io::Result<Sender> {
+fn sent(rt: &impl Print, sender: Sender, sends: u32) -> io::Result<Sender> {
+    let mut s = sender;
     for _ in 0..sends {
-        sender = lines::send(rt, sender)?;
+        s = lines::send(rt, s)?;
     }
-    lines::counts(rt, &sender.bytes)?;
-    Ok(sender)
+    lines::counts(rt, &s.bytes)?;
+    Ok(s)
 }
