@@ -1,52 +1,18 @@
 -- The reader's next state, by what was read: an equation for each answer of its functions.
-use mathlib.Core.Path.{◌≡◌, refl, ap, ◌∙◌}
+use mathlib.Core.Path.{◌≡◌}
 use mathlib.Core.Bool.{Bool, true, false, cond, ◌&&◌}
 use mathlib.Core.List.{List}
 use Prim.Native.Nat.{ℕ, ◌+◌, ◌-◌, ◌*◌, ◌<◌, ◌≤◌, min}
 use native.Mathlib.Omega.{arith}
-use borrow.Author.Tests.{le-leb, lt-leb, lt-ltb, le-ltb, eq-eqb, ne_eqb}
-use lib.Dec.{ltb, eqb}
+use borrow.Author.Tests.{le-leb, lt-leb, eq-eqb, ne_eqb}
+use lib.Dec.{eqb}
 use lib.ListN.{set}
-use Rattle.text.specs.Ascii.{line_feed, space, hyphen}
+use Rattle.text.specs.Ascii.{space, hyphen}
 use Rattle.text.specs.Decimal.{is_digit}
-use Rattle.text.proofs.Digits.{digit_range}
 use Rattle.reader.specs.declared.Line.{Line}
 use Rattle.reader.specs.declared.Word.{Word}
 use Rattle.reader.specs.declared.Word.TheVariants.{Empty, Number, Unreadable}
 use Rattle.reader.specs.Reader.{number_with, with_digit, with_mark, next_word, is_whole, tone_in, word_end, kept_tone, next_line, next_tones, is_blank, line_end, end_tones}
-use Rattle.reader.specs.Internal.{word_of, digit_read}
-
--- ---- the word that a number stands for
-
-module _ (n : ℕ) where
-  pub word_number : n < 65536 → word_of n ≡ Number n
-  unfolding word_of
-  word_number h = rw (lt-ltb n 65536 h)
-
-  pub word_empty : n ≡ 65536 → word_of n ≡ Empty
-  unfolding word_of
-  word_empty e = rw (le-ltb n 65536 (omega arith), eq-eqb n 65536 e)
-
-  pub word_unreadable : 65536 < n → word_of n ≡ Unreadable
-  unfolding word_of
-  word_unreadable h = rw (le-ltb n 65536 (omega arith), ne_eqb n 65536 (λ e. omega arith))
-
-  no_number : 65536 ≤ n → is_whole (word_of n) ≡ false
-  unfolding word_of
-  no_number h = rw (le-ltb n 65536 h) (by (eqb n 65536))
-    where
-      by : (t : Bool) → is_whole (cond t Empty Unreadable) ≡ false
-      by true = refl
-      by false = refl
-
-  -- a mark is a word by itself
-  pub mark_within : (n ≡ 65536 → ⊥) → with_mark (word_of n) ≡ Unreadable
-  unfolding word_of
-  mark_within h = rw (ne_eqb n 65536 h) (by (ltb n 65536))
-    where
-      by : (t : Bool) → with_mark (cond t (Number n) Unreadable) ≡ Unreadable
-      by true = refl
-      by false = refl
 
 -- ---- the next state
 
@@ -97,23 +63,3 @@ module _ (line : Line) (tones : List ℕ) where
     pub in_word : (c ≡ space → ⊥) → (next_line marks line c ≡ record { word = next_word marks line.word c; count = line.count }) × (next_tones line c tones ≡ tones)
     unfolding next_line next_tones
     in_word e = (rw (ne_eqb c space e), rw (ne_eqb c space e))
-
-    pub at_a_digit : is_digit c ≡ true → (next_line marks line c ≡ digit_read line (c - 48)) × (next_tones line c tones ≡ tones)
-    at_a_digit e =
-        let n : c ≡ space → ⊥ = λ h. omega (arith, digit_range c e) in
-        ((in_word n).0 ∙ ap (λ (w : Word). record { word = w; count = line.count }) (at_digit marks line.word c e), (in_word n).1)
-
-pub digit_no_feed : (c : ℕ) → is_digit c ≡ true → c ≡ line_feed → ⊥
-digit_no_feed c e h = omega (arith, digit_range c e)
-
--- ---- the end of a word that a number stands for
-
-module _ (n count : ℕ) (tones : List ℕ) where
-  abbrev numbered : Line
-  numbered = record { word = word_of n; count = count }
-
-  pub number_ends : n < 65536 → (word_end numbered ≡ record { word = Empty; count = min (count + 1) 255 }) × (kept_tone numbered tones ≡ set tones count n)
-  number_ends h = rw (word_number n h) (whole_ends (record { word = Number n; count = count }) tones refl)
-
-  pub no_number_ends : 65536 ≤ n → (word_end numbered ≡ record { word = Unreadable; count = count }) × (kept_tone numbered tones ≡ tones)
-  no_number_ends h = other_ends numbered tones (no_number n h)
