@@ -32,7 +32,7 @@ pub struct Stretch {
     pub at: usize,
 }
 
-// The bytes from a place on, up to a line feed. A hyphen is a word where marks may stand.
+// The bytes from a place on, up to a line feed. A hyphen is a word where marks may stand. Most bytes are digits, so they are asked for first.
 pub fn read_line(
     line: Line,
     marks: bool,
@@ -46,10 +46,17 @@ pub fn read_line(
     let mut line = line;
     for at in from..bytes.len() {
         let byte = bytes[at];
-        if byte == LINE_FEED {
+        if byte.is_ascii_digit() {
+            line.word = line.word.with_digit(byte - b'0');
+        } else if byte == LINE_FEED {
             return Stretch { line, at };
+        } else if byte == SPACE {
+            line = line.word_end(tones);
+        } else if byte == b'-' && marks {
+            line.word = line.word.with_mark();
+        } else {
+            line.word = Word::Unreadable;
         }
-        line = line.next(marks, byte, tones);
     }
     Stretch {
         line,
@@ -74,13 +81,8 @@ pub fn end_line(line: Line, tones: &mut [u16; TONES]) -> Line
 pub fn is_blank(line: Line) -> bool
     ensures { result ≡ is_blank line }
 {
-    matches!(
-        line,
-        Line {
-            word: Word::Empty,
-            count: 0
-        }
-    )
+    let Line { word, count } = line;
+    matches!(word, Word::Empty) && count == 0
 }
 
 // Of a line that ended: every word of it was read.
@@ -91,33 +93,18 @@ pub fn is_readable(line: Line) -> bool
 }
 
 impl Word {
-    // One byte more, which is no space.
-    #[tactic(auto, unfolding(crate::specs::Reader::next_word))]
-    fn next(self, marks: bool, byte: u8) -> Word
-        ensures { result ≡ next_word marks self byte }
-    {
-        if byte.is_ascii_digit() {
-            self.with_digit(byte - b'0')
-        } else if byte == b'-' && marks {
-            self.with_mark()
-        } else {
-            Word::Unreadable
-        }
-    }
-
     #[tactic(auto, unfolding(crate::specs::Reader::with_digit, crate::specs::Reader::number_with))]
     fn with_digit(self, digit: u8) -> Word
         ensures { result ≡ with_digit self digit }
     {
-        match self {
-            Word::Empty => Word::Number(u16::from(digit)),
-            Word::Number(value) => {
-                match u16::try_from(10 * u32::from(value) + u32::from(digit)) {
-                    Ok(longer) => Word::Number(longer),
-                    Err(_) => Word::Unreadable,
-                }
-            }
-            Word::Unreadable => Word::Unreadable,
+        let value = match self {
+            Word::Empty => return Word::Number(u16::from(digit)),
+            Word::Number(value) => value,
+            Word::Unreadable => return Word::Unreadable,
+        };
+        match u16::try_from(10 * u32::from(value) + u32::from(digit)) {
+            Ok(longer) => Word::Number(longer),
+            Err(_) => Word::Unreadable,
         }
     }
 
@@ -132,22 +119,6 @@ impl Word {
 }
 
 impl Line {
-    // One byte more, which is no line feed.
-    #[tactic(auto, unfolding(crate::specs::Reader::next_line, crate::specs::Reader::next_tones))]
-    fn next(self, marks: bool, byte: u8, tones: &mut [u16; TONES]) -> Line
-        ensures answer { result ≡ next_line marks self byte }
-        ensures output { tones.new ≡ next_tones self byte tones.old }
-    {
-        if byte == SPACE {
-            self.word_end(tones)
-        } else {
-            Line {
-                word: self.word.next(marks, byte),
-                count: self.count,
-            }
-        }
-    }
-
     // A word ends: its tone is kept, and if it is none the line is unreadable.
     #[tactic(auto, unfolding(crate::specs::Reader::word_end, crate::specs::Reader::kept_tone))]
     fn word_end(self, tones: &mut [u16; TONES]) -> Line
