@@ -26,8 +26,9 @@ use Rattle.message_encoder.specs.Encoding.{first_bad_text_code, encode_message}
 use Rattle.message_encoder.proofs.Counts.{count_small, whole_blocks, whole_few}
 use Rattle.message_decoder.specs.Decoding.{message_characters, decode_message}
 use Rattle.message_decoder.proofs.HeardBlocks.{message_count}
-use Rattle.band.specs.Limits.{fault}
-use Rattle.band.specs.Frequencies.{hertz_of, frequency_of}
+use Rattle.band.specs.Limits.{fault, answered}
+use Rattle.band.specs.Locating.{locate_fault, located_of}
+use Rattle.band.specs.Frequencies.{frequency_of}
 use Rattle.search.specs.Starts.{longest_run, starts}
 use Rattle.finder.specs.Finding.{first_start, is_run, found_start, find_block}
 use Rattle.energy.specs.Energies.{summed, heard_energies}
@@ -35,8 +36,10 @@ use Rattle.energy.specs.Energies as energies
 use Rattle.energy.specs.declared.Energies.{Energies}
 use Rattle.block_encoder.specs.Checking.{check_codes}
 use Rattle.sender.specs.Queues.{Block, reserved, one_more, place_answer, after_check, hand_answer}
-use Rattle.told.proofs.Kept.{carried_by, heard_carries, finding_carries, totalled_carries, handed_carries}
-use Rattle.std.proofs.Common.{Ok, Err}
+use Rattle.told.proofs.Kept.{carried_by, refused_by}
+use Rattle.std.specs.Prelude.{Float}
+use Rattle.std.proofs.Common.{Option, Some, None, Ok, Err}
+use Rattle.refusal.specs.declared.Reason.{Reason}
 
 -- what holds of each of two answers holds of the one that a test chooses
 either_way : {A : Type 0} (P : A → Type 0) (t : Bool) (x y : A) → (t ≡ true → P x) → (t ≡ false → P y) → P (cond t x y)
@@ -47,7 +50,7 @@ abbrev SmallSent : Answered ℕ → Type 0
 SmallSent answer = carried_by answer < 2 ^ 32
 
 abbrev SmallHeard : Answered ℕ → Type 0
-SmallHeard answer = heard_carries answer < 2 ^ 32
+SmallHeard answer = carried_by answer < 2 ^ 32
 
 abbrev SmallHeardBlock : BlockDecoded → Type 0
 SmallHeardBlock d = SmallHeard d.answer
@@ -65,15 +68,15 @@ block_sent_small b codes room =
     (λ _. omega arith))))
 
 -- of some characters, by their count and by the answer for clear ones
-judged_small : (m : ℕ) (characters : List Character) (clear : Answered ℕ) → length characters < 2 ^ 32 → heard_carries clear < 2 ^ 32
-    → heard_carries (unless_unclear m characters clear) < 2 ^ 32
+judged_small : (m : ℕ) (characters : List Character) (clear : Answered ℕ) → length characters < 2 ^ 32 → carried_by clear < 2 ^ 32
+    → carried_by (unless_unclear m characters clear) < 2 ^ 32
 unfolding unless_unclear
 judged_small m characters clear few h =
     either_way SmallHeard (ltb (first_unclear m characters) (length characters)) _ _
     (λ unclear. omega (arith, ltb-true (first_unclear m characters) (length characters) unclear))
     (λ _. h)
 
-pub block_heard_small : (N b m : ℕ) (tones weights : List ℕ) (room : ℕ) → heard_carries (heard_block N b m tones weights room).answer < 2 ^ 32
+pub block_heard_small : (N b m : ℕ) (tones weights : List ℕ) (room : ℕ) → carried_by (heard_block N b m tones weights room).answer < 2 ^ 32
 unfolding heard_block refused
 block_heard_small N b m tones weights room =
     either_way SmallHeardBlock (not (is_mode b)) _ _ (λ _. omega arith) (λ mode.
@@ -93,9 +96,9 @@ block_heard_small N b m tones weights room =
 -- ---- a block's energies
 
 abbrev SmallSummed : Energies → Type 0
-SmallSummed e = totalled_carries e.answer < 2 ^ 32
+SmallSummed e = refused_by e.answer < 2 ^ 32
 
-pub energies_small : (N b : ℕ) (tones weights : List ℕ) → totalled_carries (heard_energies N b tones weights).answer < 2 ^ 32
+pub energies_small : (N b : ℕ) (tones weights : List ℕ) → refused_by (heard_energies N b tones weights).answer < 2 ^ 32
 unfolding heard_energies energies.refused summed
 energies_small N b tones weights =
     either_way SmallSummed (not (is_mode b)) _ _ (λ _. omega arith) (λ _.
@@ -111,9 +114,9 @@ energies_small N b tones weights =
 -- ---- a block in a run
 
 abbrev SmallFound : Answered ℕ → Type 0
-SmallFound answer = finding_carries answer < 2 ^ 32
+SmallFound answer = carried_by answer < 2 ^ 32
 
-pub found_small : (b m : ℕ) (run : List ℕ) (room : ℕ) → finding_carries (find_block b m run room).answer < 2 ^ 32
+pub found_small : (b m : ℕ) (run : List ℕ) (room : ℕ) → carried_by (find_block b m run room).answer < 2 ^ 32
 unfolding find_block found_start
 found_small b m run room =
     either_way SmallFound (not (is_mode b)) _ _ (λ _. omega arith) (λ _.
@@ -142,7 +145,7 @@ message_sent_small b text room =
     (λ _. omega (arith, count_small b (length text), mode_range b (not-false _ mode))))))
 
 -- of codes fewer than those of the longest message and one block
-delivery_small : (b : ℕ) (codes : List ℕ) → length codes < longest + 8 → heard_carries (delivery longest b codes) < 2 ^ 32
+delivery_small : (b : ℕ) (codes : List ℕ) → length codes < longest + 8 → carried_by (delivery longest b codes) < 2 ^ 32
 unfolding delivery
 delivery_small b codes few =
     let within : text_end codes ≤ length codes = end_within codes in
@@ -151,12 +154,12 @@ delivery_small b codes few =
     either_way SmallHeard (ltb longest (text_end codes)) _ _ (λ _. omega arith) (λ _. omega arith)))
 
 characters_small : (b m : ℕ) (characters : List Character) → length characters < longest + 8
-    → heard_carries (unless_unclear m characters (delivery longest b (codes_of characters))) < 2 ^ 32
+    → carried_by (unless_unclear m characters (delivery longest b (codes_of characters))) < 2 ^ 32
 unfolding codes_of
 characters_small b m characters few =
     judged_small m characters (delivery longest b (codes_of characters)) (omega arith) (delivery_small b (codes_of characters) (rw length-map few))
 
-pub message_heard_small : (b m : ℕ) (tones : List ℕ) (room : ℕ) → heard_carries (decode_message longest b m tones room) < 2 ^ 32
+pub message_heard_small : (b m : ℕ) (tones : List ℕ) (room : ℕ) → carried_by (decode_message longest b m tones room) < 2 ^ 32
 unfolding decode_message
 message_heard_small b m tones room =
     either_way SmallHeard (not (is_mode b)) _ _ (λ _. omega arith) (λ mode.
@@ -172,19 +175,23 @@ message_heard_small b m tones room =
     omega (arith, ltb-true (first_bad_tone (2 ^ b) tones) (length tones) bad, whole_blocks longest b (length tones) whole, le-mul_of_pos_right {m = b} blocks in_range.0))
     (λ _. characters_small b m (message_characters b tones) (omega (arith, message_count b tones)))))))
 
--- ---- a frequency
+-- ---- a frequency, and the tone of a measurement
 
-pub frequency_refused_at_0 : (b w c n : ℕ) (r : Refusal) → frequency_of b w c n ≡ Err r → r.place ≡ 0
+answered_at_0 : {A : Type 0} (fault : Option Reason) (x : A) → refused_by (answered fault x) < 2 ^ 32
+answered_at_0 None x = omega arith
+answered_at_0 (Some reason) x = omega arith
+
+pub frequency_small : (b w c n : ℕ) → refused_by (frequency_of b w c n) < 2 ^ 32
 unfolding frequency_of
-frequency_refused_at_0 b w c n r e = by (eqb (fault b w c n) 0) e
-  where
-    by : (t : Bool) → cond t (Ok (hertz_of b w c n)) (Err (refused_at (fault b w c n) 0)) ≡ Err r → r.place ≡ 0
-    by true e = let z : ◌≡◌ {A = ℕ} 0 1 = cc in absurd (omega arith)
-    by false e = cc
+frequency_small b w c n = answered_at_0 (fault b w c n) _
+
+pub located_small : (b w c : ℕ) (x : Float) → refused_by (located_of b w c x) < 2 ^ 32
+unfolding located_of
+located_small b w c x = answered_at_0 (locate_fault b w c x) _
 
 -- ---- a block handed in
 
-placed_small : (counts : ℕ → ℕ) (depot : ℕ) → handed_carries (place_answer counts depot) < 2 ^ 32
+placed_small : (counts : ℕ → ℕ) (depot : ℕ) → refused_by (place_answer counts depot) < 2 ^ 32
 unfolding place_answer
 placed_small counts depot =
     either_way SmallHanded (ltb 29 depot) _ _ (λ _. omega arith) (λ known.
@@ -192,9 +199,9 @@ placed_small counts depot =
     either_way SmallHanded (ltb 150 (reserved (one_more counts depot))) _ _ (λ _. omega (arith, ltb-false 29 depot known)) (λ _. omega arith)))
   where
     SmallHanded : Answered Unit → Type 0
-    SmallHanded answer = handed_carries answer < 2 ^ 32
+    SmallHanded answer = refused_by answer < 2 ^ 32
 
-pub handed_small : (counts : ℕ → ℕ) (depot : ℕ) (b : Block) → handed_carries (hand_answer counts depot b) < 2 ^ 32
+pub handed_small : (counts : ℕ → ℕ) (depot : ℕ) (b : Block) → refused_by (hand_answer counts depot b) < 2 ^ 32
 unfolding hand_answer after_check check_codes
 handed_small counts depot b =
     either_way Small (not (is_mode b.mode)) _ _ (λ _. omega arith) (λ mode.
@@ -204,4 +211,4 @@ handed_small counts depot b =
     (λ _. placed_small counts depot)))
   where
     Small : Answered Unit → Type 0
-    Small checked = handed_carries (after_check checked (place_answer counts depot)) < 2 ^ 32
+    Small checked = refused_by (after_check checked (place_answer counts depot)) < 2 ^ 32

@@ -11,7 +11,7 @@ use Rattle.block_decoder.specs.declared.BlockDecoded.{BlockDecoded}
 use Rattle.demands.specs.Demand.{Gives, RefusesAsUnclear, MeetsDemand3}
 use Rattle.demands.specs.declared.Trial.{Trial}
 use Rattle.trial.specs.Tried.{trial_of, Tried}
-use Rattle.told.specs.Told.{encoded_told, decoded_told}
+use Rattle.told.specs.Told.{counted_told}
 use Rattle.told.proofs.Kept.{small_kept}
 use Rattle.olivia.specs.Told.{trial_told}
 use Rattle.olivia.specs.Tried.{GivesForC, RefusesForC, MeetsDemand3ForC, TriedForC}
@@ -19,19 +19,19 @@ use Rattle.olivia.specs.declared.TrialAnswers.{TrialAnswers}
 use Rattle.refusal.specs.Refused.{Answered}
 
 module _ (b m : ℕ) (text out out' : List ℕ) (d : BlockDecoded) where
-  pub gives_told : Gives b text d out out' → GivesForC b text (decoded_told d.answer) out out'
+  pub gives_told : Gives b text d out out' → GivesForC b text (counted_told d.answer) out out'
   gives_told g = record {
-    number = ap (λ (a : Answered ℕ). (decoded_told a).number) g.accepted;
-    count = ap (λ (a : Answered ℕ). (decoded_told a).count) g.accepted;
+    number = ap (λ (a : Answered ℕ). (counted_told a).number) g.accepted;
+    count = ap (λ (a : Answered ℕ). (counted_told a).count) g.accepted;
     written = g.written;
   }
 
-  pub refuses_told : RefusesAsUnclear b m d out out' → RefusesForC b m d.characters (decoded_told d.answer) out out'
+  pub refuses_told : RefusesAsUnclear b m d out out' → RefusesForC b m d.characters (counted_told d.answer) out out'
   refuses_told u =
-      let place : (decoded_told d.answer).place ≡ u.place = ap (λ (a : Answered ℕ). (decoded_told a).place) u.refused in
-      let lead : (decoded_told d.answer).lead ≡ lead_in d.characters u.place = ap (λ (a : Answered ℕ). (decoded_told a).lead) u.refused in
+      let place : (counted_told d.answer).place ≡ u.place = ap (λ (a : Answered ℕ). (counted_told a).place) u.refused in
+      let lead : (counted_told d.answer).lead ≡ lead_in d.characters u.place = ap (λ (a : Answered ℕ). (counted_told a).lead) u.refused in
       record {
-        number = ap (λ (a : Answered ℕ). (decoded_told a).number) u.refused;
+        number = ap (λ (a : Answered ℕ). (counted_told a).number) u.refused;
         inside = omega (arith, u.inside);
         lead = lead ∙ ap (lead_in d.characters) (sym place);
         unclear = omega (arith, u.unclear);
@@ -47,8 +47,8 @@ module _ (b m : ℕ) (text heard tones tones' one one' two two' : List ℕ) (t :
       let r : capped t.replaced ≡ t.replaced = small_kept t.replaced (omega (arith, d.places)) in
       let u : capped t.missing ≡ t.missing = small_kept t.missing (omega (arith, d.places)) in
       record {
-        accepted = ap (λ (e : Answered ℕ). (encoded_told e).number) d.accepted;
-        count = ap (λ (e : Answered ℕ). (encoded_told e).count) d.accepted;
+        accepted = ap (λ (e : Answered ℕ). (counted_told e).number) d.accepted;
+        count = ap (λ (e : Answered ℕ). (counted_told e).count) d.accepted;
         sent = d.sent;
         first = gives_told b m text one one' t.first d.first;
         places = omega (arith, d.places);

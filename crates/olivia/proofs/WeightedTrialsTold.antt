@@ -8,7 +8,7 @@ use Rattle.block_decoder.specs.Decoding.{decode_weighted}
 use Rattle.weighted_demands.specs.Demand.{MeetsWeightedDemand3}
 use Rattle.weighted_demands.specs.declared.WeightedTrial.{WeightedTrial}
 use Rattle.trial.specs.WeightedTried.{weighted_trial_of, WeightedTried}
-use Rattle.told.specs.Told.{encoded_told}
+use Rattle.told.specs.Told.{counted_told}
 use Rattle.olivia.specs.Told.{weighted_trial_told}
 use Rattle.olivia.specs.WeightedTried.{MeetsWeightedDemand3ForC, WeightedTriedForC}
 use Rattle.olivia.specs.declared.WeightedTrialAnswers.{WeightedTrialAnswers}
@@ -20,8 +20,8 @@ module _ (b m : ℕ) (text heard weights tones tones' one one' two two' : List �
       → MeetsWeightedDemand3ForC b m text t.second.characters (weighted_trial_told t) tones tones' one one' two two'
   unfolding weighted_trial_told
   demand_told d = record {
-    accepted = ap (λ (e : Answered ℕ). (encoded_told e).number) d.accepted;
-    count = ap (λ (e : Answered ℕ). (encoded_told e).count) d.accepted;
+    accepted = ap (λ (e : Answered ℕ). (counted_told e).number) d.accepted;
+    count = ap (λ (e : Answered ℕ). (counted_told e).count) d.accepted;
     sent = d.sent;
     first = gives_told b m text one one' t.first d.first;
     same = λ g. gives_told b m text two two' t.second (d.same g);

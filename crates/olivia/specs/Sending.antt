@@ -1,5 +1,6 @@
 -- What C can count on from a sender: there is an answer for which the promises of sender hold, and C is told that answer.
 use Rattle.std.specs.Prelude.{◌≡◌, List, ℕ, Option}
+use Rattle.sender.specs.declared.Served.{Served}
 use Rattle.sender.specs.Queues.{Block}
 use Rattle.sender.specs.Sending.{HandedIn, HandedToAny, SentFrom, SentFromAny}
 use Rattle.told.specs.declared.Answer.{Answer}

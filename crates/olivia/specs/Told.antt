@@ -6,12 +6,12 @@ use Rattle.tone_range.specs.Range.{first_bad_tone, looked_at}
 use Rattle.demands.specs.declared.Trial.{Trial}
 use Rattle.weighted_demands.specs.declared.WeightedTrial.{WeightedTrial}
 use Rattle.scaled.specs.Exact.{scaled}
-use Rattle.told.specs.Told.{encoded_told, decoded_told}
+use Rattle.told.specs.Told.{counted_told}
 use Rattle.olivia.specs.declared.LookedAnswer.{LookedAnswer}
 use Rattle.olivia.specs.declared.HertzAnswer.{HertzAnswer}
 use Rattle.olivia.specs.declared.TrialAnswers.{TrialAnswers}
 use Rattle.olivia.specs.declared.WeightedTrialAnswers.{WeightedTrialAnswers}
-use Rattle.refusal.specs.Refused.{Answered}
+use Rattle.refusal.specs.Refused.{Answered, number_of}
 
 abbrev pub looked_answer : ℕ → ℕ → ℕ → LookedAnswer
 looked_answer number place looked = record { number = number; place = place; looked = looked }
@@ -26,21 +26,21 @@ looked_told b tones =
 -- a refusal has no frequency: 0 stands there
 abbrev pub hertz_told : Answered Float → HertzAnswer
 hertz_told (Ok x) = record { number = 0; place = 0; hertz = x }
-hertz_told (Err r) = record { number = r.number; place = r.place; hertz = scaled 0 }
+hertz_told (Err r) = record { number = number_of r.reason; place = r.place; hertz = scaled 0 }
 
 unfoldable pub trial_told : Trial → TrialAnswers
 trial_told t = record {
-  encoded = encoded_told t.encoded;
-  first = decoded_told t.first.answer;
-  second = decoded_told t.second.answer;
+  encoded = counted_told t.encoded;
+  first = counted_told t.first.answer;
+  second = counted_told t.second.answer;
   replaced = capped t.replaced;
   missing = capped t.missing;
 }
 
 unfoldable pub weighted_trial_told : WeightedTrial → WeightedTrialAnswers
 weighted_trial_told t = record {
-  encoded = encoded_told t.encoded;
-  first = decoded_told t.first.answer;
-  second = decoded_told t.second.answer;
+  encoded = counted_told t.encoded;
+  first = counted_told t.first.answer;
+  second = counted_told t.second.answer;
   damage = t.damage;
 }

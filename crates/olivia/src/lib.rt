@@ -11,7 +11,8 @@ ghost use Rattle.band.specs.Frequencies.{frequency_of};
 ghost use Rattle.band.specs.Locating.{located_of};
 ghost use Rattle.finder.specs.Finding.{find_block, found_into};
 ghost use Rattle.energy.specs.Energies.{block_energies, weighted_energies};
-ghost use Rattle.told.specs.Told.{encoded_told, decoded_told, block_told, found_told, energies_told, located_told, written_told, read_told};
+ghost use Rattle.told.specs.Told.{counted_told, block_told, found_told, energies_told, located_told, read_told};
+ghost use Rattle.told.specs.Capped.{refused_capped};
 ghost use Rattle.sentence.specs.Reading.{read_sentence};
 ghost use Rattle.sentence.specs.Writing.{write_sentence, sentence_into};
 ghost use Rattle.sender.specs.Queues.{new};
@@ -21,7 +22,7 @@ ghost use Rattle.olivia.specs.Told.{looked_answer, looked_told, hertz_told};
 ghost use Rattle.olivia.specs.Tried.{TriedForC};
 ghost use Rattle.olivia.specs.WeightedTried.{WeightedTriedForC};
 
-use refusal::{Reason, checks};
+use refusal::{Reason, Refusal, checks};
 use sender::{Sender, lent};
 use told::{Answer, BlockAnswer, EnergiesAnswer, FoundAnswer, LocatedAnswer, ReadAnswer, SentAnswer, };
 
@@ -41,6 +42,28 @@ pub struct HertzAnswer {
     pub number: u32,
     pub place: u32,
     pub hertz: f64,
+}
+
+impl From<Result<f64, Refusal>> for HertzAnswer {
+    ghost from_gives = { λ tuned told. told ≡ hertz_told (refused_capped tuned) };
+
+    fn from(tuned: Result<f64, Refusal>) -> HertzAnswer {
+        match tuned {
+            Ok(hertz) => HertzAnswer {
+                number: 0,
+                place: 0,
+                hertz,
+            },
+            Err(refusal) => {
+                let told = Answer::from(refusal);
+                HertzAnswer {
+                    number: told.number,
+                    place: told.place,
+                    hertz: 0.0,
+                }
+            }
+        }
+    }
 }
 
 // The answers of the three calls, and document 01's r and u.
@@ -66,10 +89,10 @@ pub struct WeightedTrialAnswers {
 
 #[unsafe(no_mangle)]
 pub extern "C" fn olivia_encode_block(mode: u32, codes: &[u8], tones: &mut [u16]) -> Answer
-    ensures answer { result ≡ encoded_told (encode_block mode codes.now (length tones.old)) }
+    ensures answer { result ≡ counted_told (encode_block mode codes.now (length tones.old)) }
     ensures output { tones.new ≡ encoded_into mode codes.now tones.old }
 {
-    told::encoded(block_encoder::encode_block(mode, codes, tones))
+    Answer::from(block_encoder::encode_block(mode, codes, tones))
 }
 
 #[unsafe(no_mangle)]
@@ -82,7 +105,7 @@ pub extern "C" fn olivia_decode_block(
     ensures answer { result ≡ block_told (decode_block mode least_lead tones.now (length codes.old)) }
     ensures output { codes.new ≡ decoded_into mode least_lead tones.now codes.old }
 {
-    told::block(block_decoder::decode_block(mode, least_lead, tones, codes))
+    BlockAnswer::from(block_decoder::decode_block(mode, least_lead, tones, codes))
 }
 
 #[unsafe(no_mangle)]
@@ -96,7 +119,7 @@ pub extern "C" fn olivia_decode_weighted(
     ensures answer { result ≡ block_told (decode_weighted mode least_lead tones.now weights.now (length codes.old)) }
     ensures output { codes.new ≡ weighted_into mode least_lead tones.now weights.now codes.old }
 {
-    told::block(block_decoder::decode_weighted(mode, least_lead, tones, weights, codes))
+    BlockAnswer::from(block_decoder::decode_weighted(mode, least_lead, tones, weights, codes))
 }
 
 #[unsafe(no_mangle)]
@@ -109,21 +132,21 @@ pub extern "C" fn olivia_find_block(
     ensures answer { result ≡ found_told mode (find_block mode least_lead run.now (length codes.old)) }
     ensures output { codes.new ≡ found_into mode least_lead run.now codes.old }
 {
-    told::found(mode, finder::find(mode, least_lead, run, codes))
+    FoundAnswer::new(mode, finder::find(mode, least_lead, run, codes))
 }
 
 #[unsafe(no_mangle)]
 pub extern "C" fn olivia_energy(mode: u32, tones: &[u16]) -> EnergiesAnswer
     ensures { result ≡ energies_told (block_energies mode tones.now) }
 {
-    told::energies(energy::of_block(mode, tones))
+    EnergiesAnswer::from(energy::of_block(mode, tones))
 }
 
 #[unsafe(no_mangle)]
 pub extern "C" fn olivia_weighted_energy(mode: u32, tones: &[u16], weights: &[u8]) -> EnergiesAnswer
     ensures { result ≡ energies_told (weighted_energies mode tones.now weights.now) }
 {
-    told::energies(energy::of_weighted(mode, tones, weights))
+    EnergiesAnswer::from(energy::of_weighted(mode, tones, weights))
 }
 
 #[unsafe(no_mangle)]
@@ -131,21 +154,21 @@ pub extern "C" fn olivia_check_tones(mode: u32, tones: &[u16]) -> LookedAnswer
     ensures { result ≡ looked_told mode tones.now }
 {
     if !checks::is_mode(mode) {
-        return looked(Reason::Mode, 0, 0);
+        return looked(Reason::Mode.number(), 0, 0);
     }
     let range = tone_range::check(checks::tone_count(mode), tones);
-    if range.bad < tones.len() {
-        return looked(Reason::Tone, range.bad, range.looked);
+    match range.bad {
+        Some(bad) => looked(Reason::Tone.number(), bad, range.looked),
+        None => looked(0, 0, range.looked),
     }
-    looked(0, 0, range.looked)
 }
 
 #[unsafe(no_mangle)]
 pub extern "C" fn olivia_encode_message(mode: u32, text: &[u8], tones: &mut [u16]) -> Answer
-    ensures answer { result ≡ encoded_told (encode_message longest mode text.now (length tones.old)) }
+    ensures answer { result ≡ counted_told (encode_message longest mode text.now (length tones.old)) }
     ensures output { tones.new ≡ message_encoded_into longest mode text.now tones.old }
 {
-    told::encoded(message_encoder::encode_message(mode, text, tones))
+    Answer::from(message_encoder::encode_message(mode, text, tones))
 }
 
 #[unsafe(no_mangle)]
@@ -155,39 +178,24 @@ pub extern "C" fn olivia_decode_message(
     tones: &[u16],
     text: &mut [u8],
 ) -> Answer
-    ensures answer { result ≡ decoded_told (decode_message longest mode least_lead tones.now (length text.old)) }
+    ensures answer { result ≡ counted_told (decode_message longest mode least_lead tones.now (length text.old)) }
     ensures output { text.new ≡ message_decoded_into longest mode least_lead tones.now text.old }
 {
-    told::decoded(message_decoder::decode_message(mode, least_lead, tones, text))
+    Answer::from(message_decoder::decode_message(mode, least_lead, tones, text))
 }
 
 #[unsafe(no_mangle)]
 pub extern "C" fn olivia_frequency(mode: u32, width: u32, centre: u32, tone: u16) -> HertzAnswer
     ensures { result ≡ hertz_told (frequency_of mode width centre tone) }
 {
-    let tuned = band::frequency(mode, width, centre, tone);
-    match tuned {
-        Ok(hertz) => HertzAnswer {
-            number: 0,
-            place: 0,
-            hertz,
-        },
-        Err(refusal) => {
-            let answer = told::refused(refusal);
-            HertzAnswer {
-                number: answer.number,
-                place: answer.place,
-                hertz: 0.0,
-            }
-        }
-    }
+    HertzAnswer::from(band::frequency(mode, width, centre, tone))
 }
 
 #[unsafe(no_mangle)]
 pub extern "C" fn olivia_locate(mode: u32, width: u32, centre: u32, hertz: f64) -> LocatedAnswer
     ensures { result ≡ located_told (located_of mode width centre hertz) }
 {
-    told::located(band::locate(mode, width, centre, hertz))
+    LocatedAnswer::from(band::locate(mode, width, centre, hertz))
 }
 
 #[unsafe(no_mangle)]
@@ -207,7 +215,7 @@ pub extern "C" fn olivia_hand_in(
 ) -> Answer
     ensures { HandedInForC state.old depot (record { mode = mode; codes = codes.now }) result state.new }
 {
-    told::handed(lent::hand_in(state, depot, mode, codes))
+    Answer::from(lent::hand_in(state, depot, mode, codes))
 }
 
 // The promise of sender::lent::send, of the answer as C is told it.
@@ -215,7 +223,7 @@ pub extern "C" fn olivia_hand_in(
 pub extern "C" fn olivia_send(state: &mut [u8; 1532], tones: &mut [u16]) -> SentAnswer
     ensures { SentForC state.old tones.old result tones.new state.new }
 {
-    told::sent(lent::send(state, tones))
+    SentAnswer::from(lent::send(state, tones))
 }
 
 #[unsafe(no_mangle)]
@@ -225,17 +233,17 @@ pub extern "C" fn olivia_write_sentence(
     lead: u32,
     out: &mut [u8],
 ) -> Answer
-    ensures answer { result ≡ written_told (write_sentence (record { number = number; place = place; lead = lead }) (length out.old)) }
-    ensures output { out.new ≡ sentence_into (record { number = number; place = place; lead = lead }) out.old }
+    ensures answer { result ≡ counted_told (write_sentence number place lead (length out.old)) }
+    ensures output { out.new ≡ sentence_into number place lead out.old }
 {
-    told::written(sentence::write_sentence(number, place as usize, lead, out))
+    Answer::from(sentence::write_sentence(number, place as usize, lead, out))
 }
 
 #[unsafe(no_mangle)]
 pub extern "C" fn olivia_read_sentence(bytes: &[u8]) -> ReadAnswer
     ensures { result ≡ read_told (read_sentence bytes.now) }
 {
-    told::read(sentence::read_sentence(bytes))
+    ReadAnswer::from(sentence::read_sentence(bytes))
 }
 
 // The promise of trial::run, of the answers as C is told them.
@@ -252,15 +260,10 @@ pub extern "C" fn olivia_trial_run(
     ensures { TriedForC mode least_lead text.now heard.now result tones.old tones.new one.old one.new two.old two.new }
 {
     let trial = trial::run(mode, least_lead, text, heard, tones, one, two);
-    let encoded = trial.encoded;
-    let first = trial.first;
-    let second = trial.second;
-    let first_answer = first.answer;
-    let second_answer = second.answer;
     TrialAnswers {
-        encoded: told::encoded(encoded),
-        first: told::decoded(first_answer),
-        second: told::decoded(second_answer),
+        encoded: Answer::from(trial.encoded),
+        first: Answer::from(trial.first.answer),
+        second: Answer::from(trial.second.answer),
         replaced: told::capped(trial.replaced),
         missing: told::capped(trial.missing),
     }
@@ -280,17 +283,12 @@ pub extern "C" fn olivia_weighted_trial_run(
 ) -> WeightedTrialAnswers
     ensures { WeightedTriedForC mode least_lead text.now heard.now weights.now result tones.old tones.new first.old first.new second.old second.new }
 {
-    let trial = trial::run_weighted(mode, least_lead, text, heard, weights, tones, first, second);
-    let encoded = trial.encoded;
-    let one = trial.first;
-    let two = trial.second;
-    let one_answer = one.answer;
-    let two_answer = two.answer;
+    let weighed = trial::run_weighted(mode, least_lead, text, heard, weights, tones, first, second);
     WeightedTrialAnswers {
-        encoded: told::encoded(encoded),
-        first: told::decoded(one_answer),
-        second: told::decoded(two_answer),
-        damage: trial.damage,
+        encoded: Answer::from(weighed.encoded),
+        first: Answer::from(weighed.first.answer),
+        second: Answer::from(weighed.second.answer),
+        damage: weighed.damage,
     }
 }
 
@@ -298,7 +296,7 @@ fn looked(number: u8, place: usize, count: usize) -> LookedAnswer
     ensures { result ≡ looked_answer number place count }
 {
     LookedAnswer {
-        number: number as u32,
+        number: u32::from(number),
         place: place as u64,
         looked: count as u64,
     }

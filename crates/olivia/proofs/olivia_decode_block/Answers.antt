@@ -8,4 +8,4 @@ pub returns : goal.returns
 returns c =
     let called = c.decode_block in
     let kept = block_kept called.result (rw called.ensures.answer (block_heard_small _ _ _ _ _ _)) in
-    record { answer = c.block.ensures ∙ ap block_told (kept ∙ called.ensures.answer); output = called.ensures.output }
+    record { answer = c.from.ensures ∙ ap block_told (kept ∙ called.ensures.answer); output = called.ensures.output }

@@ -1,11 +1,11 @@
 use mathlib.Core.Path.{◌∙◌, ap}
-use Rattle.told.specs.Told.{decoded_told}
-use Rattle.told.proofs.Kept.{heard_kept}
+use Rattle.told.specs.Told.{counted_told}
+use Rattle.told.proofs.Kept.{counted_kept}
 use Rattle.olivia.proofs.Carried.{message_heard_small}
 use Rattle.olivia.proofs.olivia_decode_message.Goals as goal
 
 pub returns : goal.returns
 returns c =
     let called = c.decode_message in
-    let kept = heard_kept called.result (rw called.ensures.answer (message_heard_small _ _ _ _)) in
-    record { answer = c.decoded.ensures ∙ ap decoded_told (kept ∙ called.ensures.answer); output = called.ensures.output }
+    let kept = counted_kept called.result (rw called.ensures.answer (message_heard_small _ _ _ _)) in
+    record { answer = c.from.ensures ∙ ap counted_told (kept ∙ called.ensures.answer); output = called.ensures.output }

@@ -9,4 +9,4 @@ returns c =
     let called = c.find in
     let mode = c.args.mode in
     let kept = found_kept called.result (rw called.ensures.answer (found_small _ _ _ _)) in
-    record { answer = c.found.ensures ∙ ap (found_told mode) (kept ∙ called.ensures.answer); output = called.ensures.output }
+    record { answer = c.new.ensures ∙ ap (found_told mode) (kept ∙ called.ensures.answer); output = called.ensures.output }

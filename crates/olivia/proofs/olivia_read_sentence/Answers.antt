@@ -8,4 +8,4 @@ pub returns : goal.returns
 returns c =
     let called = c.read_sentence in
     let kept = read_kept called.result (rw called.ensures (read_small _)) in
-    c.read.ensures ∙ ap read_told (kept ∙ called.ensures)
+    c.from.ensures ∙ ap read_told (kept ∙ called.ensures)

@@ -7,4 +7,4 @@ use Rattle.olivia.proofs.olivia_weighted_energy.Goals as goal
 pub returns : goal.returns
 returns c =
     let called = c.of_weighted in
-    c.energies.ensures ∙ ap energies_told (energies_kept called.result (rw called.ensures (energies_small _ _ _ _)) ∙ called.ensures)
+    c.from.ensures ∙ ap energies_told (energies_kept called.result (rw called.ensures (energies_small _ _ _ _)) ∙ called.ensures)

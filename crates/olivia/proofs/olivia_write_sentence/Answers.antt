@@ -1,11 +1,11 @@
 use mathlib.Core.Path.{◌∙◌, ap}
 use Rattle.sentence_laws.proofs.Sizes.{written_small}
-use Rattle.told.specs.Told.{written_told}
-use Rattle.told.proofs.Kept.{written_kept}
+use Rattle.told.specs.Told.{counted_told}
+use Rattle.told.proofs.Kept.{counted_kept}
 use Rattle.olivia.proofs.olivia_write_sentence.Goals as goal
 
 pub returns : goal.returns
 returns c =
     let called = c.write_sentence in
-    let kept = written_kept called.result (rw called.ensures.answer (written_small _ _)) in
-    record { answer = c.written.ensures ∙ ap written_told (kept ∙ called.ensures.answer); output = called.ensures.output }
+    let kept = counted_kept called.result (rw called.ensures.answer (written_small _ _)) in
+    record { answer = c.from.ensures ∙ ap counted_told (kept ∙ called.ensures.answer); output = called.ensures.output }
