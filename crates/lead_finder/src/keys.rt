@@ -107,13 +107,9 @@ fn narrow(number: u32) -> i16
 fn largest(keys: &[u16; 64]) -> u16
     ensures { result ≡ largest (num keys.now) 64 }
 {
-    let mut most: u16 = 0;
-    let mut i: usize = 0;
-    while i < 64 {
-        if most < keys[i] {
-            most = keys[i];
-        }
-        i += 1;
+    let mut most = 0;
+    for &key in keys {
+        most = most.max(key);
     }
     most
 }
