@@ -5,14 +5,14 @@ use mathlib.Core.Logic.{◌≢◌}
 use Prim.Native.Nat.{ℕ, zero, suc, ◌+◌, ◌-◌, ◌*◌, ◌/◌, ◌%◌, ◌<◌, ◌≤◌}
 use native.Mathlib.Decide.{ℕ_discrete, dec_lt}
 use native.Mathlib.Omega.{arith}
-use lib.IntN.{ℤ, pos, nat_abs}
+use lib.IntN.{ℤ, nat_abs}
 use lib.ListN.{length, set, get_or-eq_default}
 use lib.Seq.{get_or-set_same, get_or-set_other}
-use Rattle.lists.specs.Lists.{tab, num, at}
+use Rattle.lists.specs.Lists.{tab, num}
 use Rattle.lists.proofs.Tables.{tab_length, tab_at, tab_ext}
 use Rattle.decision.specs.Decision.{best, runner_up, negative, code_of, decision_for, decision}
 use Rattle.decision.specs.Laws.{Foremost}
-use Rattle.lead_finder.specs.Internal.{Magnitude, key_of, largest}
+use Rattle.lead_finder.specs.Internal.{key_of, largest}
 use Rattle.decision.specs.declared.Character.{Character}
 use Rattle.decision.proofs.Choice.{below_suc, same_character, Best, Next, best_is, runner_up_is, decided}
 
@@ -68,18 +68,9 @@ module _ (r : ℕ → ℤ) where
             let past : length x ≤ i = rw (e, tab_length) (omega arith) in
             omega (arith, get_or-eq_default x 0 {n = i} past)
 
-    -- ---- and from the same in 16 bits, y
-
-    module _ (y : List ℤ) (f : y ≡ tab (λ i. pos (num x i)) 64) where
-      number_at : (k : ℕ) → k < 64 → at y k ≡ pos (nat_abs (r k))
-      number_at k l = rw f (tab_at (λ i. pos (num x i)) (pos 0) 64 k l ∙ ap pos (magnitude_at k l))
-
-      pub number_small : (k : ℕ) → k < 64 → nat_abs (r k) ≤ 960 → Magnitude (at y k)
-      number_small k l h = rw (number_at k l) record { size = h; sign = tt }
-
-      pub keys_from : tab (λ k. nat_abs (at y k) * 64 + (63 - k)) 64 ≡ tab (key_of r) 64
-      unfolding key_of
-      keys_from = tab_ext 0 _ _ 64 (λ k l. ap (λ (z : ℤ). nat_abs z * 64 + (63 - k)) (number_at k l))
+    pub keys_from : tab (λ k. num x k * 64 + (63 - k)) 64 ≡ tab (key_of r) 64
+    unfolding key_of
+    keys_from = tab_ext 0 _ _ 64 (λ k l. ap (λ (n : ℕ). n * 64 + (63 - k)) (magnitude_at k l))
 
   -- ---- what the passes over the keys x find
 

@@ -7,6 +7,7 @@ ghost use Rattle.decision.specs.Decision.{negative, code_of, decision};
 ghost use Rattle.lead_finder.specs.Internal.{Magnitude, key_of, largest};
 
 use decision::Character;
+use std::array;
 
 // With 0 in place of the largest key the next largest is the runner-up's: 0 is the key of word 63 at magnitude 0 alone, and 62 words are
 // left whose keys are larger.
@@ -39,21 +40,15 @@ fn keys(correlations: [i32; 64]) -> [u16; 64]
     requires { Within 960 correlations }
     ensures { result ≡ tab (key_of (at correlations)) 64 }
 {
-    let numbers = narrowed(magnitudes(correlations));
-    let mut keys = [0u16; 64];
-    let mut i: usize = 0;
-    while i < 64 {
-        keys[i] = key(numbers[i], i);
-        i += 1;
-    }
-    keys
+    let magnitudes = magnitudes(narrowed(correlations));
+    array::from_fn(|word| key(magnitudes[word], word))
 }
 
-fn key(magnitude: i16, word: usize) -> u16
-    requires { Magnitude magnitude × (word < 64) }
-    ensures { result ≡ nat_abs magnitude * 64 + (63 - word) }
+fn key(magnitude: u16, word: usize) -> u16
+    requires { (magnitude ≤ 960) × (word < 64) }
+    ensures { result ≡ magnitude * 64 + (63 - word) }
 {
-    magnitude as u16 * 64 + (63 - word as u16)
+    magnitude * 64 + (63 - word as u16)
 }
 
 fn word_of(key: u16) -> usize
@@ -62,45 +57,25 @@ fn word_of(key: u16) -> usize
     (63 - key % 64) as usize
 }
 
-fn magnitudes(correlations: [i32; 64]) -> [u32; 64]
-    requires { Within 8192 correlations }
-    ensures { result ≡ tab (λ i. nat_abs (at correlations i)) 64 }
+fn magnitudes(numbers: [i16; 64]) -> [u16; 64]
+    ensures { result ≡ tab (λ i. nat_abs (at numbers i)) 64 }
 {
-    let mut numbers = [0u32; 64];
-    let mut i: usize = 0;
-    while i < 64 {
-        numbers[i] = magnitude(correlations[i]);
-        i += 1;
-    }
-    numbers
+    array::from_fn(|i| numbers[i].unsigned_abs())
 }
 
-fn magnitude(v: i32) -> u32
-    requires { nat_abs v ≤ 8192 }
-    ensures { result ≡ nat_abs v }
+fn narrowed(correlations: [i32; 64]) -> [i16; 64]
+    requires { Within 960 correlations }
+    ensures { result ≡ correlations }
 {
-    if v < 0 { (-v) as u32 } else { v as u32 }
+    array::from_fn(|i| narrow(correlations[i]))
 }
 
-// The same numbers in 16 bits: signed, since plain x86-64 has an instruction for that alone.
-fn narrowed(numbers: [u32; 64]) -> [i16; 64]
-    requires { (i : ℕ) → num numbers i ≤ 8192 }
-    ensures { result ≡ tab (λ i. pos (num numbers i)) 64 }
+// The same number in 16 bits. The limits, which it is within, are those of the instruction that narrows four numbers at once.
+fn narrow(number: i32) -> i16
+    requires { nat_abs number ≤ 960 }
+    ensures { result ≡ number }
 {
-    let mut x = [0i16; 64];
-    let mut i: usize = 0;
-    while i < 64 {
-        x[i] = narrow(numbers[i]);
-        i += 1;
-    }
-    x
-}
-
-fn narrow(number: u32) -> i16
-    requires { number ≤ 8192 }
-    ensures { result ≡ pos number }
-{
-    number as i16
+    number.clamp(-32768, 32767) as i16
 }
 
 // The largest of the keys.

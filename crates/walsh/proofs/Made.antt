@@ -1,14 +1,14 @@
 -- An array that `from_fn` made, where each call gives h of the place and changes nothing.
-use mathlib.Core.Path.{◌≡◌, ◌∙◌}
+use mathlib.Core.Path.{◌≡◌, sym, ◌∙◌, ap}
 use mathlib.Core.List.{List}
 use Prim.Native.Nat.{ℕ, zero, suc, ◌+◌, ◌<◌, ◌≤◌}
 use native.Mathlib.Decide.{ℕ_discrete}
 use native.Mathlib.Omega.{arith}
 use denote.Param.Members.{Mut, Called}
-use lib.ListN.{get_or}
+use lib.ListN.{length, get_or}
 use Rattle.std.specs.Array.{IsFromFnResult, IsFromFnResultFrom}
 use Rattle.lists.specs.Lists.{tab}
-use Rattle.lists.proofs.Tables.{is_tab}
+use Rattle.lists.proofs.Tables.{is_tab, tab_self}
 
 module _ {F B : Type 0} {g : Mut F (ℕ × Unit {0}) B} (h : ℕ → B) (d : B) {f : F} (y : List B) (n : ℕ)
     (call : (i : ℕ) (x : B) (q : F) → i < n → Called g f (i, tt) x q → (x ≡ h i) × (q ≡ f)) where
@@ -22,3 +22,8 @@ module _ {F B : Type 0} {g : Mut F (ℕ × Unit {0}) B} (h : ℕ → B) (d : B) 
 
   pub made : IsFromFnResult g f y n → y ≡ tab h n
   made r = is_tab h d n y r.long (λ i l. each_made i 0 n (omega arith) r.each (omega arith) l)
+
+-- the same where h gives the elements of z
+pub copied : {F B : Type 0} {g : Mut F (ℕ × Unit {0}) B} (z : List B) (d : B) {f : F} (y : List B) (n : ℕ) → length z ≡ n
+    → ((i : ℕ) (x : B) (q : F) → i < n → Called g f (i, tt) x q → (x ≡ get_or z i d) × (q ≡ f)) → IsFromFnResult g f y n → y ≡ z
+copied z d y n e call r = made (λ i. get_or z i d) d y n call r ∙ ap (tab (λ i. get_or z i d)) (sym e) ∙ tab_self d z

@@ -1,4 +1,3 @@
-use mathlib.Core.Bool.{false}
 use Rattle.std.proofs.Common.{rules, pos}
 use Rattle.walsh.proofs.Made.{made}
 use Rattle.lead_finder.specs.Counts.{count_at}
