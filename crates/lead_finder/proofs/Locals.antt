@@ -1,4 +1,4 @@
--- What a signed local reads back: the test of the sign, the magnitude by negation and in 16 bits, and a count from its weight.
+-- What a signed local reads back: the test of the sign, and a count from its weight.
 use mathlib.Core.Path.{◌≡◌, refl, sym, ◌∙◌, ap, subst}
 use mathlib.Core.Bool.{true, false}
 use Prim.Native.Nat.{ℕ, ◌<◌, ◌≤◌}
@@ -24,27 +24,6 @@ below_zero (negsuc n) e = refl
 pub not_below_zero : (z : ℤ) → lt_z z (pos 0) ≡ false → negative z ≡ false
 not_below_zero (pos n) e = refl
 not_below_zero (negsuc n) e = absurd (subst T e tt)
-
--- ---- the magnitude by negation
-
-module _ (v : ℤ) (h : nat_abs v ≤ 8192) where
-  pub negation_fits : SFits w32 (pos 0 -ℤ to_z w32 (of_z w32 v))
-  negation_fits = rw (reads v h) (fits (pos 0 -ℤ v) (omega (arith, abs_sub (pos 0) v)))
-
-  pub negation : to_z w32 (of_z w32 (pos 0 -ℤ to_z w32 (of_z w32 v))) ≡ neg_ℤ v
-  negation = to_z-of_z negation_fits ∙ ap (λ (z : ℤ). pos 0 -ℤ z) (reads v h) ∙ +ℤ_idl (neg_ℤ v)
-
-pub non_negative : (v : ℤ) → negative v ≡ false → T (non_neg v)
-non_negative (pos n) e = tt
-non_negative (negsuc n) e = absurd (subst T e tt)
-
-pub turned_non_negative : (v : ℤ) → negative v ≡ true → T (non_neg (neg_ℤ v))
-turned_non_negative (pos n) e = absurd (subst T (sym e) tt)
-turned_non_negative (negsuc n) e = tt
-
-pub reads_16 : (z : ℤ) → nat_abs z ≤ 8192 → to_z w16 (of_z w16 z) ≡ z
-reads_16 (pos n) h = to_z-of_z {w = w16} (record { sfits = omega arith })
-reads_16 (negsuc n) h = to_z-of_z {w = w16} (record { sfits = omega arith })
 
 -- ---- a count, from its weight
 

@@ -4,7 +4,7 @@ ghost use Rattle.std.specs.Prelude.{◌≡◌, ℕ, ◌+◌, ◌-◌, ◌*◌, �
 ghost use Rattle.lists.specs.Lists.{tab, num, at};
 ghost use Rattle.walsh.specs.Internal.{Within};
 ghost use Rattle.decision.specs.Decision.{negative, code_of, decision};
-ghost use Rattle.lead_finder.specs.Internal.{Magnitude, key_of, largest};
+ghost use Rattle.lead_finder.specs.Internal.{key_of, largest};
 
 use decision::Character;
 use std::array;
@@ -26,7 +26,7 @@ pub fn find(correlations: [i32; 64]) -> Character
     let next_correlation = correlations[next];
     Character {
         code: code_of(word, correlation),
-        lead: lead as u32,
+        lead: u32::from(lead),
         word: word as u32,
         correlation,
         next: next as u32,
@@ -54,7 +54,7 @@ fn key(magnitude: u16, word: usize) -> u16
 fn word_of(key: u16) -> usize
     ensures { result ≡ 63 - key % 64 }
 {
-    (63 - key % 64) as usize
+    usize::from(63 - key % 64)
 }
 
 fn magnitudes(numbers: [i16; 64]) -> [u16; 64]
@@ -80,13 +80,9 @@ fn narrow(number: i32) -> i16
 
 // The largest of the keys.
 fn largest(keys: &[u16; 64]) -> u16
-    ensures { result ≡ largest (num keys.now) 64 }
+    ensures { result ≡ largest keys.now }
 {
-    let mut most = 0;
-    for &key in keys {
-        most = most.max(key);
-    }
-    most
+    keys.iter().copied().max().unwrap_or(0)
 }
 
 fn code_of(word: usize, correlation: i32) -> u8

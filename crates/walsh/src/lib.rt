@@ -18,7 +18,8 @@ pub fn is_minus(word: u64, t: u64) -> bool
     u64::count_ones(word & (!t & 63)) % 2 == 1
 }
 
-// The 64 correlations of one character, from its counts.
+// The 64 correlations of one character, from its counts. As a call, and not in the code of its callers, it takes 60 instructions a character more.
+#[inline(always)]
 pub fn correlations(counts: [i8; 64]) -> [i32; 64]
     ensures { result ≡ correlations_of (at counts) }
 {
@@ -28,15 +29,11 @@ pub fn correlations(counts: [i8; 64]) -> [i32; 64]
     two_steps(x)
 }
 
-// The sum of the squares of these correlations. The steps stand here once more, since the compiler puts `correlations` into the code that decides
-// characters only as long as nothing else calls it.
+// The sum of the squares of these correlations.
 pub fn energy(counts: [i8; 64]) -> u32
     ensures { result ≡ energy (corr (at counts)) }
 {
-    let x = widened(counts);
-    let x = two_steps(x);
-    let x = two_steps(x);
-    sum_of_squares(two_steps(x))
+    sum_of_squares(correlations(counts))
 }
 
 // Counts of at most 128 in magnitude have squares that add up to at most 64 * 128 * 128, and those of the correlations to 64 times that.

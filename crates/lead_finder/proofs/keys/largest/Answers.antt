@@ -1,19 +1,11 @@
-use mathlib.Core.Path.{◌≡◌, refl}
-use native.Mathlib.Numerals.{add-one}
-use native.Mathlib.Omega.{arith}
-use Rattle.std.proofs.lemmas.Grind.{common_steps}
-use Rattle.lead_finder.specs.Internal.{largest}
+use Rattle.std.proofs.Common.{◌≡◌, sym, ◌∙◌, ap}
+use Rattle.std.specs.Option.{unwrap_or}
+use Rattle.std.proofs.lemmas.Iterator.Adapters.{option_map_id}
+use Rattle.std.proofs.lemmas.Iterator.{YieldsList-from_slice}
+use Rattle.std.proofs.lemmas.Iterator.Consumers.{max_from_yields_List, YieldsList-from_copied}
 use Rattle.lead_finder.proofs.keys.largest.Goals as goal
-
-pub loop-key-init : goal.loop-key-init
-unfolding largest
-loop-key-init c = refl
-
-pub loop-key-preserved : goal.loop-key-preserved
-unfolding largest
-loop-key-preserved c = rw add-one (grind (arith, common_steps, c.loop-key.invariant))
 
 pub returns : goal.returns
 returns c =
-    let done : c.loop-key.key-index ≡ 64 = omega arith in
-    rw done at c.loop-key.invariant
+    let most = max_from_yields_List c.copied.result _ c.max.ensures.ran (YieldsList-from_copied (YieldsList-from_slice c.args.keys.now cc)) in
+    c.unwrap_or.ensures ∙ ap (λ o. unwrap_or o 0) (sym (option_map_id _) ∙ most)
