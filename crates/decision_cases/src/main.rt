@@ -5,8 +5,7 @@
 ghost use Rattle.std.specs.Prelude.{◌≤◌};
 
 use decision::Character;
-use std::array;
-use std::io;
+use std::{array, io};
 
 // The signs of a code as it is sent; codes from 64 up have every sign turned.
 fn sent(code: u64) -> [bool; 64] {
@@ -36,7 +35,10 @@ fn missing(n: usize) -> [u8; 64]
 }
 
 fn print(rt: &impl Print, c: Character) -> io::Result<()> {
-    println!(rt; "{} {} {} {} {} {}", c.code, c.lead, c.word, c.correlation, c.next, c.next_correlation)
+    println!(rt;
+        "{} {} {} {} {} {}",
+        c.code, c.lead, c.word, c.correlation, c.next, c.next_correlation
+    )
 }
 
 fn print_every_code(rt: &impl Print) -> io::Result<()> {

@@ -15,7 +15,7 @@ use Rattle.decision.specs.Decision.{best, runner_up, negative, code_of, decision
 use Rattle.decision.specs.Laws.{Foremost}
 use Rattle.lead_finder.specs.Internal.{key_of, largest}
 use Rattle.decision.specs.declared.Character.{Character}
-use Rattle.decision.proofs.Choice.{below_suc, same_character, Best, Next, best_is, runner_up_is, decided}
+use Rattle.decision.proofs.Choice.{same_character, Best, Next, best_is, runner_up_is, decided}
 
 -- ---- the largest number
 

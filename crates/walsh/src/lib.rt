@@ -18,7 +18,7 @@ pub fn is_minus(word: u64, t: u64) -> bool
     u64::count_ones(word & (!t & 63)) % 2 == 1
 }
 
-// The 64 correlations of one character, from its counts. As a call, and not in the code of its callers, it takes 60 instructions a character more.
+// The 64 correlations of one character, from its counts. Called, and not put into the code of its callers, it takes some 50 instructions more.
 #[inline(always)]
 pub fn correlations(counts: [i8; 64]) -> [i32; 64]
     ensures { result ≡ correlations_of (at counts) }

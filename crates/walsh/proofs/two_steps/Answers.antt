@@ -18,18 +18,6 @@ loop-i-init c = over_start _ _
 fit : (c : goal.After-fourth-1) → FourFit c.args.x c.loop-i.i
 fit c = four_fit _ c.requires _
 
-pub overflow_add-low_sum : goal.overflow_add-low_sum
-overflow_add-low_sum c = (fit c).low.sum
-
-pub overflow_sub-low_difference : goal.overflow_sub-low_difference
-overflow_sub-low_difference c = (fit c).low.more
-
-pub overflow_add-high_sum : goal.overflow_add-high_sum
-overflow_add-high_sum c = (fit c).high.sum
-
-pub overflow_sub-high_difference : goal.overflow_sub-high_difference
-overflow_sub-high_difference c = (fit c).high.more
-
 pub overflow_add-y : goal.overflow_add-y
 overflow_add-y c = (fit c).sums.sum
 
