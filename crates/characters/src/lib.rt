@@ -11,6 +11,7 @@ ghost use Rattle.characters.specs.Internal.{sign_by, table_sign};
 use chain::scrambler;
 use decision::{Character, NONE};
 use refusal::checks;
+use std::array;
 
 // Decides the mode's characters, one after the other, up to the first whose lead is under least_lead, and that one too. The values are those of
 // the places in a symbol, and of a weight the lowest four bits count. The rest of the eight are NONE, and all of them if there is no such mode.
@@ -29,15 +30,13 @@ pub fn decide(
     }
     let keys = scrambler::keys();
     let b = mode as usize;
-    let mut q: usize = 0;
-    while q < b {
+    for q in 0..b {
         let signs = signs(q, &keys, values, symbols);
         let character = lead_finder::decide(signs, weights);
         characters[q] = character;
         if character.lead < least_lead {
             return characters;
         }
-        q += 1;
     }
     characters
 }
@@ -53,10 +52,8 @@ pub fn energies(mode: u32, values: &[u8; 72], symbols: &[u8; 64], weights: &[u8;
     }
     let keys = scrambler::keys();
     let b = mode as usize;
-    let mut q: usize = 0;
-    while q < b {
+    for q in 0..b {
         energies[q] = lead_finder::energy(signs(q, &keys, values, symbols), weights);
-        q += 1;
     }
     energies
 }
@@ -66,13 +63,7 @@ fn signs(q: usize, keys: &[u8; 64], values: &[u8; 72], symbols: &[u8; 64]) -> [b
     requires { q < 8 }
     ensures { result ≡ tab (table_sign keys.now values.now symbols.now q) 64 }
 {
-    let mut signs = [false; 64];
-    let mut t: usize = 0;
-    while t < 64 {
-        signs[t] = sign((keys[t] >> q) % 2 == 1, values[q + t], symbols[t]);
-        t += 1;
-    }
-    signs
+    array::from_fn(|t| sign((keys[t] >> q) % 2 == 1, values[q + t], symbols[t]))
 }
 
 // The bit that has this value in a symbol, XORed with key; bit 1 is a minus.

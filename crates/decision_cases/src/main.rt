@@ -5,16 +5,11 @@
 ghost use Rattle.std.specs.Prelude.{◌≤◌};
 
 use decision::Character;
-use std::io;
-use text::{LINE_FEED, SPACE};
+use std::{array, io};
 
 // The signs of a code as it is sent; codes from 64 up have every sign turned.
 fn sent(code: u64) -> [bool; 64] {
-    let mut signs = [false; 64];
-    for t in 0..64 {
-        signs[t] = walsh::is_minus(code, t as u64) != (64 <= code);
-    }
-    signs
+    array::from_fn(|t| walsh::is_minus(code, t as u64) != (64 <= code))
 }
 
 // The same with each of the first `n` even places turned.
@@ -39,23 +34,11 @@ fn missing(n: usize) -> [u8; 64]
     weights
 }
 
-fn print_number(rt: &impl Print, n: u64) -> io::Result<()> {
-    print!(rt; "{n} ")
-}
-
-fn print_signed(rt: &impl Print, n: i32, end: u8) -> io::Result<()> {
-    let mut line = [0u8; 12];
-    let count = text::put_signed_field(n, end, &mut line);
-    rt.write_all(&line[..count])
-}
-
 fn print(rt: &impl Print, c: Character) -> io::Result<()> {
-    print_number(rt, c.code as u64)?;
-    print_number(rt, c.lead as u64)?;
-    print_number(rt, c.word as u64)?;
-    print_signed(rt, c.correlation, SPACE)?;
-    print_number(rt, c.next as u64)?;
-    print_signed(rt, c.next_correlation, LINE_FEED)
+    println!(rt;
+        "{} {} {} {} {} {}",
+        c.code, c.lead, c.word, c.correlation, c.next, c.next_correlation
+    )
 }
 
 fn print_every_code(rt: &impl Print) -> io::Result<()> {

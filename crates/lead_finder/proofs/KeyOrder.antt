@@ -1,38 +1,44 @@
 -- The largest key is that of the foremost word, so that the passes over the keys find the decision.
 use mathlib.Core.Path.{◌≡◌, refl, ◌∙◌, ap, ap₂}
-use mathlib.Core.List.{List}
+use mathlib.Core.List.{List, [], ◌∷◌}
 use mathlib.Core.Logic.{◌≢◌}
-use Prim.Native.Nat.{ℕ, zero, suc, ◌+◌, ◌-◌, ◌*◌, ◌/◌, ◌%◌, ◌<◌, ◌≤◌}
+use Prim.Native.Nat.{ℕ, zero, suc, ◌+◌, ◌-◌, ◌*◌, ◌/◌, ◌%◌, ◌<◌, ◌≤◌, max}
+use Rattle.std.specs.List.{fold}
 use native.Mathlib.Decide.{ℕ_discrete, dec_lt}
 use native.Mathlib.Omega.{arith}
-use lib.IntN.{ℤ, pos, nat_abs}
-use lib.ListN.{length, set, get_or-eq_default}
+use lib.IntN.{ℤ, nat_abs}
+use lib.ListN.{length, set, length-set, get_or-eq_default}
 use lib.Seq.{get_or-set_same, get_or-set_other}
-use Rattle.lists.specs.Lists.{tab, num, at}
+use Rattle.lists.specs.Lists.{tab, num}
 use Rattle.lists.proofs.Tables.{tab_length, tab_at, tab_ext}
 use Rattle.decision.specs.Decision.{best, runner_up, negative, code_of, decision_for, decision}
 use Rattle.decision.specs.Laws.{Foremost}
-use Rattle.lead_finder.specs.Internal.{Magnitude, key_of, largest}
+use Rattle.lead_finder.specs.Internal.{key_of, largest}
 use Rattle.decision.specs.declared.Character.{Character}
-use Rattle.decision.proofs.Choice.{below_suc, same_character, Best, Next, best_is, runner_up_is, decided}
+use Rattle.decision.proofs.Choice.{same_character, Best, Next, best_is, runner_up_is, decided}
 
 -- ---- the largest number
 
-module _ (f : ℕ → ℕ) where
-  largest_above : (n k : ℕ) → k < n → f k ≤ largest f n
-  unfolding largest
-  largest_above zero k l = absurd (omega arith)
-  largest_above (suc n) k l =
-      below_suc (λ j. f j ≤ largest f (suc n)) n (λ j g. omega (arith, largest_above n j g)) (omega arith) k l
+from_above : (a : ℕ) (x : List ℕ) → a ≤ fold max a x
+from_above a [] = omega arith
+from_above a (y ∷ x) = omega (arith, from_above (max a y) x)
 
-  largest_below : (n B : ℕ) → ((k : ℕ) → k < n → f k ≤ B) → largest f n ≤ B
-  unfolding largest
-  largest_below zero B h = omega arith
-  largest_below (suc n) B h = omega (arith, largest_below n B (λ k l. h k (omega arith)), h n (omega arith))
+each_above : (a : ℕ) (x : List ℕ) (k : ℕ) → num x k ≤ fold max a x
+each_above a [] k = omega arith
+each_above a (y ∷ x) zero = omega (arith, from_above (max a y) x)
+each_above a (y ∷ x) (suc k) = each_above (max a y) x k
 
-  -- it is at w, if none is larger
-  largest_at : (n w : ℕ) → w < n → ((k : ℕ) → k < n → f k ≤ f w) → largest f n ≡ f w
-  largest_at n w l h = omega (arith, largest_above n w l, largest_below n (f w) h)
+all_below : (a B : ℕ) (x : List ℕ) → a ≤ B → ((k : ℕ) → k < length x → num x k ≤ B) → fold max a x ≤ B
+all_below a B [] h g = h
+all_below a B (y ∷ x) h g = all_below (max a y) B x (omega (arith, g 0 (omega arith))) (λ k l. g (suc k) (omega arith))
+
+largest_fold : (x : List ℕ) → largest x ≡ fold max 0 x
+largest_fold [] = refl
+largest_fold (y ∷ x) = ap (λ (a : ℕ). fold max a x) (omega arith)
+
+-- it is at w, if none is larger
+largest_at : (x : List ℕ) (w : ℕ) → w < length x → ((k : ℕ) → k < length x → num x k ≤ num x w) → largest x ≡ num x w
+largest_at x w l h = omega (arith, largest_fold x, each_above 0 x w, all_below 0 (num x w) x (omega arith) h)
 
 module _ (r : ℕ → ℤ) where
   -- ---- a key, by its word and its magnitude
@@ -68,18 +74,9 @@ module _ (r : ℕ → ℤ) where
             let past : length x ≤ i = rw (e, tab_length) (omega arith) in
             omega (arith, get_or-eq_default x 0 {n = i} past)
 
-    -- ---- and from the same in 16 bits, y
-
-    module _ (y : List ℤ) (f : y ≡ tab (λ i. pos (num x i)) 64) where
-      number_at : (k : ℕ) → k < 64 → at y k ≡ pos (nat_abs (r k))
-      number_at k l = rw f (tab_at (λ i. pos (num x i)) (pos 0) 64 k l ∙ ap pos (magnitude_at k l))
-
-      pub number_small : (k : ℕ) → k < 64 → nat_abs (r k) ≤ 960 → Magnitude (at y k)
-      number_small k l h = rw (number_at k l) record { size = h; sign = tt }
-
-      pub keys_from : tab (λ k. nat_abs (at y k) * 64 + (63 - k)) 64 ≡ tab (key_of r) 64
-      unfolding key_of
-      keys_from = tab_ext 0 _ _ 64 (λ k l. ap (λ (z : ℤ). nat_abs z * 64 + (63 - k)) (number_at k l))
+    pub keys_from : tab (λ k. num x k * 64 + (63 - k)) 64 ≡ tab (key_of r) 64
+    unfolding key_of
+    keys_from = tab_ext 0 _ _ 64 (λ k l. ap (λ (n : ℕ). n * 64 + (63 - k)) (magnitude_at k l))
 
   -- ---- what the passes over the keys x find
 
@@ -87,10 +84,16 @@ module _ (r : ℕ → ℤ) where
     key_at : (k : ℕ) → k < 64 → num x k ≡ key_of r k
     key_at k l = rw e (tab_at (key_of r) 0 64 k l)
 
-    largest_best : (w : ℕ) → Best r w → largest (num x) 64 ≡ key_of r w
+    long : (w : ℕ) → w < 64 → w < length x
+    long w l = rw (e, tab_length) l
+
+    below : (k : ℕ) → k < length x → k < 64
+    below k g = omega (arith, (rw (e, tab_length) at g))
+
+    largest_best : (w : ℕ) → Best r w → largest x ≡ key_of r w
     largest_best w b =
-        largest_at (num x) 64 w b.among
-        (λ k l. omega (arith, key_at k l, key_at w b.among, key_foremost (λ j. j < 64) w b.among b k l))
+        largest_at x w (long w b.among)
+        (λ k g. let l : k < 64 = below k g in omega (arith, key_at k l, key_at w b.among, key_foremost (λ j. j < 64) w b.among b k l))
         ∙ key_at w b.among
 
     cleared_own : (w : ℕ) → w < 64 → num (set x w 0) w ≡ 0
@@ -100,16 +103,16 @@ module _ (r : ℕ → ℤ) where
     cleared_other w k l ne = get_or-set_other x w k 0 0 ne ∙ key_at k l
 
     -- with 0 at w, the largest key is that of w's runner-up
-    largest_next : (w v : ℕ) → w < 64 → Next r w v → largest (num (set x w 0)) 64 ≡ key_of r v
+    largest_next : (w v : ℕ) → w < 64 → Next r w v → largest (set x w 0) ≡ key_of r v
     largest_next w v i n =
         let own : num (set x w 0) v ≡ key_of r v = cleared_other w v n.among.0 n.among.1 in
-        largest_at (num (set x w 0)) 64 v n.among.0 (λ k l. by own k l (ℕ_discrete k w)) ∙ own
+        largest_at (set x w 0) v (rw length-set (long v n.among.0)) (λ k g. by own k (below k (rw length-set at g)) (ℕ_discrete k w)) ∙ own
       where
         by : num (set x w 0) v ≡ key_of r v → (k : ℕ) → k < 64 → Dec (k ≡ w) → num (set x w 0) k ≤ num (set x w 0) v
         by own k l (yes p) = omega (arith, ap (num (set x w 0)) p, cleared_own w i)
         by own k l (no ne) = omega (arith, cleared_other w k l ne, key_foremost (λ j. (j < 64) × (j ≢ w)) v n.among.0 n k (l, ne))
 
-    module _ (first word : ℕ) (g : first ≡ largest (num x) 64) (p : word ≡ 63 - first % 64) where
+    module _ (first word : ℕ) (g : first ≡ largest x) (p : word ≡ 63 - first % 64) where
       first_key : first ≡ key_of r (best r 64)
       first_key = g ∙ largest_best (best r 64) (best_is r)
 
@@ -122,7 +125,7 @@ module _ (r : ℕ → ℤ) where
       first_magnitude : first / 64 ≡ nat_abs (r word)
       first_magnitude = rw word_is (ap (λ (k : ℕ). k / 64) first_key ∙ key_magnitude (best r 64))
 
-      module _ (second next : ℕ) (s : second ≡ largest (num (set x word 0)) 64) (q : next ≡ 63 - second % 64) where
+      module _ (second next : ℕ) (s : second ≡ largest (set x word 0)) (q : next ≡ 63 - second % 64) where
         second_key : second ≡ key_of r (runner_up r word)
         second_key = s ∙ largest_next word (runner_up r word) word_best.among (runner_up_is r word word_best.among)
 

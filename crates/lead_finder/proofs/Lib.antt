@@ -1,2 +1,1 @@
-pub mod Locals
 pub mod KeyOrder

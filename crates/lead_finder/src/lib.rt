@@ -9,6 +9,7 @@ ghost use Rattle.decision.specs.Decision.{decision};
 ghost use Rattle.lead_finder.specs.Counts.{count_at};
 
 use decision::Character;
+use std::array;
 
 mod keys;
 
@@ -29,13 +30,7 @@ pub fn energy(signs: [bool; 64], weights: &[u8; 64]) -> u32
 fn counts(signs: [bool; 64], weights: &[u8; 64]) -> [i8; 64]
     ensures { result ≡ tab (count_at signs weights.now) 64 }
 {
-    let mut counts = [0i8; 64];
-    let mut t: usize = 0;
-    while t < 64 {
-        counts[t] = count(signs[t], weights[t]);
-        t += 1;
-    }
-    counts
+    array::from_fn(|t| count(signs[t], weights[t]))
 }
 
 fn count(minus: bool, weight: u8) -> i8

@@ -2,6 +2,7 @@ pub mod Signed
 pub mod Signs
 pub mod Butterflies
 pub mod Locals
+pub mod Made
 pub mod Fours
 pub mod Sizes
 pub mod Squares

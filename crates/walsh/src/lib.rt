@@ -7,6 +7,8 @@ ghost use Rattle.walsh.specs.Words.{minus, corr, correlations_of};
 ghost use Rattle.walsh.specs.Energy.{energy};
 ghost use Rattle.walsh.specs.Internal.{step_of, Within};
 
+use std::array;
+
 pub mod laws;
 
 // Whether a Walsh word has a minus at t; both are taken by their lowest six bits.
@@ -16,7 +18,8 @@ pub fn is_minus(word: u64, t: u64) -> bool
     u64::count_ones(word & (!t & 63)) % 2 == 1
 }
 
-// The 64 correlations of one character, from its counts.
+// The 64 correlations of one character, from its counts. Called, and not put into the code of its callers, it takes some 50 instructions more.
+#[inline(always)]
 pub fn correlations(counts: [i8; 64]) -> [i32; 64]
     ensures { result ≡ correlations_of (at counts) }
 {
@@ -26,15 +29,11 @@ pub fn correlations(counts: [i8; 64]) -> [i32; 64]
     two_steps(x)
 }
 
-// The sum of the squares of these correlations. The steps stand here once more, since the compiler puts `correlations` into the code that decides
-// characters only as long as nothing else calls it.
+// The sum of the squares of these correlations.
 pub fn energy(counts: [i8; 64]) -> u32
     ensures { result ≡ energy (corr (at counts)) }
 {
-    let x = widened(counts);
-    let x = two_steps(x);
-    let x = two_steps(x);
-    sum_of_squares(two_steps(x))
+    sum_of_squares(correlations(counts))
 }
 
 // Counts of at most 128 in magnitude have squares that add up to at most 64 * 128 * 128, and those of the correlations to 64 times that.
@@ -43,31 +42,16 @@ fn sum_of_squares(correlations: [i32; 64]) -> u32
     ensures { result ≡ energy (at correlations) }
 {
     let mut sum: u32 = 0;
-    let mut word: usize = 0;
-    while word < 64 {
-        let correlation = correlations[word];
+    for correlation in correlations {
         sum += (correlation * correlation) as u32;
-        word += 1;
     }
     sum
-}
-
-fn wide(count: i8) -> i32
-    ensures { result ≡ count }
-{
-    count as i32
 }
 
 fn widened(counts: [i8; 64]) -> [i32; 64]
     ensures { result ≡ counts }
 {
-    let mut x = [0i32; 64];
-    let mut i: usize = 0;
-    while i < 64 {
-        x[i] = wide(counts[i]);
-        i += 1;
-    }
-    x
+    array::from_fn(|i| i32::from(counts[i]))
 }
 
 // Two steps of the transform at once, the same all three times: the constant geometry form. Four numbers, 16 places apart, become four that
@@ -77,8 +61,7 @@ fn two_steps(x: [i32; 64]) -> [i32; 64]
     ensures { result ≡ step_of (step_of x) }
 {
     let mut y = [0i32; 64];
-    let mut i: usize = 0;
-    while i < 16 {
+    for i in 0..16 {
         let first = x[i];
         let second = x[i + 16];
         let third = x[i + 32];
@@ -91,7 +74,6 @@ fn two_steps(x: [i32; 64]) -> [i32; 64]
         y[4 * i + 1] = low_difference + high_difference;
         y[4 * i + 2] = high_sum - low_sum;
         y[4 * i + 3] = high_difference - low_difference;
-        i += 1;
     }
     y
 }

@@ -2,7 +2,6 @@ use mathlib.Core.Path.{◌≡◌, sym, ◌∙◌}
 use mathlib.Core.Bool.{true}
 use Prim.Native.Nat.{◌<◌, ◌≤◌}
 use native.Mathlib.Omega.{arith}
-use borrow.Author.Rules.{rules}
 use borrow.Author.Tests.{lt-ltb, le-ltb}
 use Rattle.lists.specs.Lists.{over}
 use Rattle.lists.proofs.Fronts.{over_start, over_set}
@@ -25,7 +24,7 @@ mode_known : (c : Else-not-is_mode) → is_mode c.args.mode ≡ true
 mode_known c = sym c.is_mode.ensures ∙ c.if-not-is_mode.false
 
 pub loop-q-init : goal.loop-q-init
-loop-q-init c = ((mode_range _ (mode_known (goal.at.loop-q-init c).Else-not-is_mode)).1, search rules, over_start _ _, scan_start _ _)
+loop-q-init c = ((mode_range _ (mode_known (goal.at.loop-q-init c).Else-not-is_mode)).1, over_start _ _, scan_start _ _)
 
 -- the decision is that on character q, and stands at its place
 here : (d : After-decide-character) → let l = d.before.before.before.before in let a = l.args in d.decide-character.result ≡ symbol_character a.values.now a.symbols.now a.weights.now l.loop-q.q
@@ -49,8 +48,8 @@ returns-then-character-least_lead c =
     let more : l.loop-q.q < a.mode = i.loop-q-test.true in
     let high : a.mode ≤ 8 = l.loop-q.invariant.0 in
     let unclear = lt-ltb d.decide-character.result.lead a.least_lead c.if-character-least_lead.true in
-    let at-q = sym l.loop-q.invariant.3 ∙ scan_hit _ l.loop-q.q _ more (rw (here (goal.at.returns-then-character-least_lead c).After-decide-character) at unclear) in
-    rw (mode_known (goal.at.returns-then-character-least_lead c).Else-not-is_mode, stops_at a.mode a.least_lead (symbol_character a.values.now a.symbols.now a.weights.now) l.loop-q.q more at-q) (over_set none _ l.loop-q.q _ _ _ (omega arith) l.loop-q.invariant.2 (here (goal.at.returns-then-character-least_lead c).After-decide-character))
+    let at-q = sym l.loop-q.invariant.2 ∙ scan_hit _ l.loop-q.q _ more (rw (here (goal.at.returns-then-character-least_lead c).After-decide-character) at unclear) in
+    rw (mode_known (goal.at.returns-then-character-least_lead c).Else-not-is_mode, stops_at a.mode a.least_lead (symbol_character a.values.now a.symbols.now a.weights.now) l.loop-q.q more at-q) (over_set none _ l.loop-q.q _ _ _ (omega arith) l.loop-q.invariant.1 (here (goal.at.returns-then-character-least_lead c).After-decide-character))
 
 pub loop-q-preserved : goal.loop-q-preserved
 loop-q-preserved c =
@@ -62,9 +61,8 @@ loop-q-preserved c =
     let high : a.mode ≤ 8 = l.loop-q.invariant.0 in
     let clear = le-ltb d.decide-character.result.lead a.least_lead c.if-character-least_lead.false in (
       high,
-      omega arith,
-      over_set none _ l.loop-q.q _ _ _ (omega arith) l.loop-q.invariant.2 (here (goal.at.loop-q-preserved c).After-decide-character),
-      scan_miss _ l.loop-q.q _ more (rw (here (goal.at.loop-q-preserved c).After-decide-character) at clear) ∙ l.loop-q.invariant.3,
+      over_set none _ l.loop-q.q _ _ _ (omega arith) l.loop-q.invariant.1 (here (goal.at.loop-q-preserved c).After-decide-character),
+      scan_miss _ l.loop-q.q _ more (rw (here (goal.at.loop-q-preserved c).After-decide-character) at clear) ∙ l.loop-q.invariant.2,
     )
 
 pub returns : goal.returns
@@ -74,5 +72,5 @@ returns c =
     let e = l.before.before in
     let a = e.args in
     let done : l.loop-q.q ≡ a.mode = omega arith in
-    let at_end = sym l.loop-q.invariant.3 ∙ scan_end _ l.loop-q.q _ c.loop-q-test.false ∙ done in
-    rw (mode_known (goal.at.returns c).Else-not-is_mode, goes_on a.mode a.least_lead (symbol_character a.values.now a.symbols.now a.weights.now) at_end) (rw done at l.loop-q.invariant.2)
+    let at_end = sym l.loop-q.invariant.2 ∙ scan_end _ l.loop-q.q _ c.loop-q-test.false ∙ done in
+    rw (mode_known (goal.at.returns c).Else-not-is_mode, goes_on a.mode a.least_lead (symbol_character a.values.now a.symbols.now a.weights.now) at_end) (rw done at l.loop-q.invariant.1)

@@ -10,8 +10,5 @@ use Rattle.characters.proofs.decide.Given as goal
 
 abbrev pub invariant-loop-q : goal.invariant-loop-q
 invariant-loop-q l =
-    (l.mode ≤ 8) × (l.q ≤ l.mode) × (l.characters ≡ over (tab (symbol_character l.values l.symbols l.weights) l.q) (replicate 8 none))
+    (l.mode ≤ 8) × (l.characters ≡ over (tab (symbol_character l.values l.symbols l.weights) l.q) (replicate 8 none))
     × (scan (λ k. ltb (symbol_character l.values l.symbols l.weights k).lead l.least_lead) l.q (l.mode - l.q) ≡ first (λ k. ltb (symbol_character l.values l.symbols l.weights k).lead l.least_lead) l.mode)
-
-abbrev pub decreases-loop-q : goal.decreases-loop-q
-decreases-loop-q l = l.mode - l.q

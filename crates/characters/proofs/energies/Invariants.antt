@@ -1,5 +1,5 @@
 use mathlib.Core.Path.{◌≡◌}
-use Prim.Native.Nat.{◌-◌, ◌≤◌}
+use Prim.Native.Nat.{◌≤◌}
 use lib.ListN.{replicate}
 use Rattle.lists.specs.Lists.{tab, over}
 use Rattle.characters.specs.Symbols.{symbol_energy}
@@ -7,7 +7,4 @@ use Rattle.characters.proofs.energies.Given as goal
 
 abbrev pub invariant-loop-q : goal.invariant-loop-q
 invariant-loop-q l =
-    (l.mode ≤ 8) × (l.q ≤ l.mode) × (l.energies ≡ over (tab (symbol_energy l.values l.symbols l.weights) l.q) (replicate 8 0))
-
-abbrev pub decreases-loop-q : goal.decreases-loop-q
-decreases-loop-q l = l.mode - l.q
+    (l.mode ≤ 8) × (l.energies ≡ over (tab (symbol_energy l.values l.symbols l.weights) l.q) (replicate 8 0))

@@ -1,12 +1,8 @@
 use mathlib.Core.Path.{◌≡◌}
-use Prim.Native.Nat.{◌-◌, ◌≤◌}
 use Rattle.lists.specs.Lists.{at}
 use Rattle.lists.specs.Sums.{total}
 use Rattle.walsh.specs.Energy.{square}
 use Rattle.walsh.proofs.sum_of_squares.Given as goal
 
-abbrev pub invariant-loop-word : goal.invariant-loop-word
-invariant-loop-word l = (l.word ≤ 64) × (l.sum ≡ total l.word (λ c. square (at l.correlations c)))
-
-abbrev pub decreases-loop-word : goal.decreases-loop-word
-decreases-loop-word l = 64 - l.word
+abbrev pub invariant-loop-correlation : goal.invariant-loop-correlation
+invariant-loop-correlation l = l.sum ≡ total l.correlation-index (λ c. square (at l.correlation-items c))

@@ -13,22 +13,10 @@ use Rattle.walsh.proofs.Fours.{first_of_four, second_of_four, third_of_four, fou
 use Rattle.walsh.proofs.two_steps.Goals as goal
 
 pub loop-i-init : goal.loop-i-init
-loop-i-init c = (omega arith, over_start _ _)
+loop-i-init c = over_start _ _
 
 fit : (c : goal.After-fourth-1) → FourFit c.args.x c.loop-i.i
 fit c = four_fit _ c.requires _
-
-pub overflow_add-low_sum : goal.overflow_add-low_sum
-overflow_add-low_sum c = (fit c).low.sum
-
-pub overflow_sub-low_difference : goal.overflow_sub-low_difference
-overflow_sub-low_difference c = (fit c).low.more
-
-pub overflow_add-high_sum : goal.overflow_add-high_sum
-overflow_add-high_sum c = (fit c).high.sum
-
-pub overflow_sub-high_difference : goal.overflow_sub-high_difference
-overflow_sub-high_difference c = (fit c).high.more
 
 pub overflow_add-y : goal.overflow_add-y
 overflow_add-y c = (fit c).sums.sum
@@ -54,18 +42,16 @@ loop-i-preserved c =
     let high_sum = added x s.requires (l.i + 32) (l.i + 48) in
     let high-difference = subtracted x s.requires (l.i + 48) (l.i + 32) in
     let more : l.i < 16 = omega arith in
-    let next : 4 * l.i + 4 ≡ 4 * (l.i + 1) = omega arith in (
-      omega arith,
-      rw next at (four_more (butterfly (at (step_of x))) (4 * l.i) (replicate 64 (pos 0)) l.y _ _ _ _ (omega arith) l.invariant.1
-          ((sum_holds low_sum high_sum (omega arith)).value ∙ first_of_four x l.i more)
-          ((sum_holds low-difference high-difference (omega arith)).value ∙ second_of_four x l.i more)
-          ((difference_holds high_sum low_sum (omega arith)).value ∙ third_of_four x l.i more)
-          ((difference_holds high-difference low-difference (omega arith)).value ∙ fourth_of_four x l.i more)),
-    )
+    let next : 4 * l.i + 4 ≡ 4 * (l.i + 1) = omega arith in
+    rw next at (four_more (butterfly (at (step_of x))) (4 * l.i) (replicate 64 (pos 0)) l.y _ _ _ _ (omega arith) l.invariant
+    ((sum_holds low_sum high_sum (omega arith)).value ∙ first_of_four x l.i more)
+    ((sum_holds low-difference high-difference (omega arith)).value ∙ second_of_four x l.i more)
+    ((difference_holds high_sum low_sum (omega arith)).value ∙ third_of_four x l.i more)
+    ((difference_holds high-difference low-difference (omega arith)).value ∙ fourth_of_four x l.i more))
 
 pub returns : goal.returns
 unfolding step_of
 returns c =
     let l = c.loop-i in
     let done : l.i ≡ 16 = omega arith in
-    rw done at l.invariant.1 ∙ over_tab_whole _ 64 _ (lit≤ tt)
+    rw done at l.invariant ∙ over_tab_whole _ 64 _ (lit≤ tt)

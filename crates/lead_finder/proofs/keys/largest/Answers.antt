@@ -1,20 +1,11 @@
-use mathlib.Core.Path.{◌≡◌, refl}
-use native.Mathlib.Numerals.{add-one}
-use native.Mathlib.Omega.{arith}
-use Rattle.lead_finder.specs.Internal.{largest}
+use Rattle.std.proofs.Common.{sym, ◌∙◌, ap}
+use Rattle.std.specs.Option.{unwrap_or}
+use Rattle.std.proofs.lemmas.Iterator.Adapters.{option_map_id}
+use Rattle.std.proofs.lemmas.Iterator.{YieldsList-from_slice}
+use Rattle.std.proofs.lemmas.Iterator.Consumers.{max_from_yields_List, YieldsList-from_copied}
 use Rattle.lead_finder.proofs.keys.largest.Goals as goal
-use Rattle.lead_finder.proofs.keys.largest.Goals.{then-most-keys, else-most-keys}
-
-pub loop-i-init : goal.loop-i-init
-unfolding largest
-loop-i-init c = (omega arith, refl)
 
 pub returns : goal.returns
 returns c =
-    let l = c.loop-i in
-    let done : l.i ≡ 64 = omega arith in
-    rw done at l.invariant.1
-
-pub loop-i-preserved : goal.loop-i-preserved
-unfolding largest
-loop-i-preserved c = (omega arith, rw add-one (elim c.if-most-keys.branch [ then-most-keys w ↦ omega (arith, c.loop-i.invariant.1, w.if-most-keys.true, w.most-is) | else-most-keys w ↦ omega (arith, c.loop-i.invariant.1, w.if-most-keys.false, w.most-is) ]))
+    let most = max_from_yields_List c.copied.result _ c.max.ensures.ran (YieldsList-from_copied (YieldsList-from_slice c.args.keys.now cc)) in
+    c.unwrap_or.ensures ∙ ap (λ o. unwrap_or o 0) (sym (option_map_id _) ∙ most)
