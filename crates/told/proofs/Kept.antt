@@ -10,9 +10,11 @@ use Rattle.refusal.specs.Refused.{Answered}
 use Rattle.refusal.specs.declared.Refusal.{Refusal}
 use Rattle.block_decoder.specs.declared.BlockDecoded.{BlockDecoded}
 use Rattle.finder.specs.declared.BlockFound.{BlockFound}
+use Rattle.band.specs.declared.Located.{Located}
+use Rattle.band.specs.declared.Located.TheVariants as located
 use Rattle.energy.specs.declared.Energies.{Energies}
 use Rattle.sentence.proofs.Sizes.{read_carries}
-use Rattle.told.specs.Capped.{place_capped, counted_capped, refused_capped, block_capped, found_capped, energies_capped, read_capped}
+use Rattle.told.specs.Capped.{place_capped, counted_capped, refused_capped, block_capped, found_capped, energies_capped, located_capped, read_capped}
 
 -- the count, the start or the place that an answer carries
 abbrev pub carried_by : Answered ℕ → ℕ
@@ -47,6 +49,19 @@ found_kept d h = let e = counted_kept d.answer h in λ i. record { answer = e i;
 
 pub energies_kept : (e : Energies) → refused_by e.answer < 2 ^ 32 → energies_capped e ≡ e
 energies_kept e h = let a = refused_kept e.answer h in λ i. record { answer = a i; sums = e.sums }
+
+-- the place that a refused measurement carries
+abbrev pub located_carries : Located → ℕ
+located_carries (located.Heard n off) = 0
+located_carries located.NotFinite = 0
+located_carries located.OutsideBand = 0
+located_carries (located.Refused r) = r.place
+
+pub located_kept : (l : Located) → located_carries l < 2 ^ 32 → located_capped l ≡ l
+located_kept (located.Heard n off) h = refl
+located_kept located.NotFinite h = refl
+located_kept located.OutsideBand h = refl
+located_kept (located.Refused r) h = ap located.Refused (place_kept r h)
 
 pub read_kept : (a : Answered Refusal) → read_carries a < 2 ^ 32 → read_capped a ≡ a
 read_kept (Ok r) h = ap Ok (place_kept r h)

@@ -3,6 +3,8 @@ use Rattle.lists.specs.Caps.{capped}
 use Rattle.refusal.specs.declared.Refusal.{Refusal}
 use Rattle.block_decoder.specs.declared.BlockDecoded.{BlockDecoded}
 use Rattle.finder.specs.declared.BlockFound.{BlockFound}
+use Rattle.band.specs.declared.Located.{Located}
+use Rattle.band.specs.declared.Located.TheVariants as located
 use Rattle.energy.specs.declared.Energies.{Energies}
 use Rattle.std.specs.Prelude.{ℕ, Ok, Err}
 use Rattle.refusal.specs.Refused.{Answered}
@@ -32,6 +34,13 @@ found_capped d = record { answer = counted_capped d.answer; characters = d.chara
 -- energies with their answer capped
 abbrev pub energies_capped : Energies → Energies
 energies_capped e = record { answer = refused_capped e.answer; sums = e.sums }
+
+-- what locating answers, with its place capped
+abbrev pub located_capped : Located → Located
+located_capped (located.Heard n off) = located.Heard n off
+located_capped located.NotFinite = located.NotFinite
+located_capped located.OutsideBand = located.OutsideBand
+located_capped (located.Refused r) = located.Refused (place_capped r)
 
 -- what reading a sentence answers, with its place capped
 abbrev pub read_capped : Answered Refusal → Answered Refusal

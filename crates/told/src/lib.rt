@@ -3,15 +3,15 @@
 
 ghost use Rattle.std.specs.Prelude.{◌≡◌};
 ghost use Rattle.lists.specs.Caps.{capped};
-ghost use Rattle.told.specs.Told.{accepted_told, refusal_told, counted_told, character_told, characters_told, block_told, found_told, energies_told, located_told, handed_told, sent_told, read_told};
-ghost use Rattle.told.specs.Capped.{place_capped, counted_capped, refused_capped, block_capped, found_capped, energies_capped, read_capped};
+ghost use Rattle.told.specs.Told.{accepted_told, refusal_told, counted_told, character_told, characters_told, block_told, found_told, energies_told, nowhere_told, located_told, handed_told, sent_told, read_told};
+ghost use Rattle.told.specs.Capped.{place_capped, counted_capped, refused_capped, block_capped, found_capped, energies_capped, located_capped, read_capped};
 
-use band::Heard;
+use band::Located;
 use block_decoder::BlockDecoded;
 use decision::Character;
 use energy::Energies;
 use finder::BlockFound;
-use refusal::Refusal;
+use refusal::{Reason, Refusal};
 use sender::Served;
 
 // number 0: accepted, and count is the tones, codes or bytes written. Else the refusal, and count is 0.
@@ -215,27 +215,33 @@ impl From<Energies> for EnergiesAnswer {
     }
 }
 
-impl From<Result<Heard, Refusal>> for LocatedAnswer {
-    ghost from_gives = { λ located told. told ≡ located_told (refused_capped located) };
+impl From<Located> for LocatedAnswer {
+    ghost from_gives = { λ located told. told ≡ located_told (located_capped located) };
 
-    fn from(located: Result<Heard, Refusal>) -> LocatedAnswer {
+    fn from(located: Located) -> LocatedAnswer {
         match located {
-            Ok(heard) => LocatedAnswer {
+            Located::Heard(tone, hertz_off) => LocatedAnswer {
                 number: 0,
                 place: 0,
-                tone: u32::from(heard.tone),
-                hertz_off: heard.hertz_off,
+                tone: u32::from(tone),
+                hertz_off,
             },
-            Err(refusal) => {
-                let told = Answer::from(refusal);
-                LocatedAnswer {
-                    number: told.number,
-                    place: told.place,
-                    tone: 0,
-                    hertz_off: 0.0,
-                }
-            }
+            Located::NotFinite => nowhere(Refusal::at(Reason::NotFinite, 0)),
+            Located::OutsideBand => nowhere(Refusal::at(Reason::OutsideBand, 0)),
+            Located::Refused(refusal) => nowhere(refusal),
         }
+    }
+}
+
+fn nowhere(refusal: Refusal) -> LocatedAnswer
+    ensures { result ≡ nowhere_told (place_capped refusal) }
+{
+    let told = Answer::from(refusal);
+    LocatedAnswer {
+        number: told.number,
+        place: told.place,
+        tone: 0,
+        hertz_off: 0.0,
     }
 }
 
