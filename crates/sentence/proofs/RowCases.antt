@@ -19,8 +19,11 @@ told_whole : (m : Match) (place lead : ℕ) → told m ≡ Ok (place, lead) → 
 unfolding told
 told_whole m place lead e = by m.whole refl e
   where
-    by : (t : Bool) → m.whole ≡ t → cond {A = Result (ℕ × ℕ) ℕ} t (Ok (m.place, m.lead)) (Err m.shared) ≡ Ok (place, lead) → (m.whole ≡ true) × (m.place ≡ place) × (m.lead ≡ lead)
-    by true w f = let same : ◌≡◌ {A = ℕ × ℕ} (m.place, m.lead) (place, lead) = cc in (w, ap (λ (x : ℕ × ℕ). x.0) same, ap (λ (x : ℕ × ℕ). x.1) same)
+    by : (t : Bool) → m.whole ≡ t → cond {A = Result (ℕ × ℕ) ℕ} t (Ok (m.place, m.lead)) (Err m.shared) ≡ Ok (place, lead)
+        → (m.whole ≡ true) × (m.place ≡ place) × (m.lead ≡ lead)
+    by true w f =
+        let same : ◌≡◌ {A = ℕ × ℕ} (m.place, m.lead) (place, lead) = cc in
+        (w, ap (λ (x : ℕ × ℕ). x.0) same, ap (λ (x : ℕ × ℕ). x.1) same)
     by false w f = absurd cc
 
 told_part : (m : Match) (n : ℕ) → told m ≡ Err n → (m.whole ≡ false) × (m.shared ≡ n)

@@ -42,7 +42,8 @@ piece p bytes =
 
 -- ---- a pattern
 
--- how many bytes agree with a sentence of it, whether they are the whole of one, and the place and the lead in them
+-- how many bytes agree with a sentence of it, whether they are the whole of one, and the place and the lead in them, which the laws name
+-- also where they are not the whole
 pub record Match : Type 0 where
   pub shared : ℕ
   pub whole : Bool

@@ -8,7 +8,6 @@ pub mod Matching
 pub mod MatchRanges
 pub mod Parting
 pub mod SoundRows
-pub mod Reasons
 pub mod KnownRows
 pub mod RowReading
 pub mod Farthest

@@ -4,20 +4,28 @@ use mathlib.Core.Bool.{Bool, true, false, cond}
 use mathlib.Core.List.{List, [], ◌∷◌}
 use Prim.Native.Nat.{ℕ, ◌≤◌, max}
 use native.Mathlib.Omega.{arith}
+use denote.Enum.Bare.{tag_one}
+use Rattle.refusal.specs.declared.Reason.{Reason}
+use Rattle.refusal.specs.contracts.Reason.{the_type}
 use Rattle.refusal.specs.declared.Refusal.{Refusal}
 use Rattle.refusal.specs.Refused.{number_of}
+use Rattle.refusal.proofs.Numbers.{numbered}
 use Rattle.sentence.specs.Patterns.{lead_mark, most_place, most_lead, filled, has, most_lead_of}
 use Rattle.sentence.specs.Sentences.{Row, number, pattern_in, sentence_in}
 use Rattle.sentence.specs.Condition.{are_sound}
 use Rattle.sentence.specs.Reading.{Match, matched, found, read_from}
 use Rattle.sentence.proofs.Soundness.{IsRow, First, first}
 use Rattle.sentence.proofs.RowCases.{read_here, read_later}
-use Rattle.sentence_laws.proofs.Reasons.{same_reason}
 use Rattle.sentence_laws.proofs.Matching.{match_agrees, match_whole}
 use Rattle.sentence_laws.proofs.Parting.{parted_not_whole}
 use Rattle.sentence_laws.proofs.SoundRows.{apart_from}
 use Rattle.sentence_laws.proofs.KnownRows.{Known, none_known, Where, known_where, known_later, sentence_later, found_known, found_sentence}
 use Rattle.std.proofs.Common.{Ok}
+
+-- ---- no two reasons have one number
+
+same_reason : (a b : Reason) → number_of a ≡ number_of b → a ≡ b
+same_reason a b e = tag_one the_type tt a b (omega (arith, numbered a, numbered b))
 
 -- ---- leads
 
