@@ -57,6 +57,7 @@ fn put_heading(out: &mut [u8; OUTPUT]) -> usize
 }
 
 // The text after the last line, if the output has room for any text.
+#[tactic(auto, unfolding(crate::specs::Stages::ending_text))]
 pub fn finish(listing: Listing, out: &mut [u8]) -> usize
     ensures answer { result ≡ length (fitting (ending_text listing.stage listing.blocks) (length out.old)) }
     ensures output { out.new ≡ over (fitting (ending_text listing.stage listing.blocks) (length out.old)) out.old }
