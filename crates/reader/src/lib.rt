@@ -2,7 +2,7 @@
 #![tactic(auto)]
 
 ghost use Rattle.std.specs.Prelude.{◌≡◌};
-ghost use Rattle.reader.specs.Reader.{with_digit, with_mark, next_word, word_end, kept_tone, next_line, next_tones, is_blank, line_end, end_tones, is_read, line_from, stretch, read_tones};
+ghost use Rattle.reader.specs.Reader.{with_digit, with_mark, word_end, kept_tone, is_blank, line_end, end_tones, is_read, line_from, stretch, read_tones};
 
 use chain::MISSING;
 use text::{LINE_FEED, SPACE};
