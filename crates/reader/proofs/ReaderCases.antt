@@ -14,7 +14,8 @@ use Rattle.text.specs.Decimal.{is_digit}
 use Rattle.reader.specs.declared.Line.{Line}
 use Rattle.reader.specs.declared.Word.{Word}
 use Rattle.reader.specs.declared.Word.TheVariants.{Empty, Unreadable}
-use Rattle.reader.specs.Reader.{number_with, with_digit, with_mark, next_word, is_whole, tone_in, word_end, kept_tone, next_line, next_tones, is_blank, line_end, end_tones}
+use Rattle.reader.specs.Reader.{number_with, with_digit, with_mark, next_word, is_whole, tone_in}
+use Rattle.reader.specs.Reader.{word_end, kept_tone, next_line, next_tones, is_blank, line_end, end_tones}
 
 -- ---- the next state
 
@@ -23,7 +24,8 @@ unfolding number_with
 number_over v d h = rw (lt-leb (10 * v + d) 65535 h)
 
 module _ (line : Line) (tones : List ℕ) where
-  pub whole_ends : is_whole line.word ≡ true → (word_end line ≡ record { word = Empty; count = min (line.count + 1) 255 }) × (kept_tone line tones ≡ set tones line.count (tone_in line.word))
+  pub whole_ends : is_whole line.word ≡ true
+      → (word_end line ≡ record { word = Empty; count = min (line.count + 1) 255 }) × (kept_tone line tones ≡ set tones line.count (tone_in line.word))
   unfolding word_end kept_tone
   whole_ends e = (rw e, rw e)
 

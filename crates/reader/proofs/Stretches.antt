@@ -37,9 +37,11 @@ module _ (marks : Bool) (bytes : List ℕ) where
   pub reads_on : (line : Line) (from : ℕ) (tones : List ℕ) → ReadsOn marks bytes line from tones line from tones
   reads_on line from tones = record { the_line = refl; the_tones = refl; the_place = refl }
 
-  module _ {line₀ : Line} {from : ℕ} {tones₀ : List ℕ} (line : Line) (at : ℕ) (tones : List ℕ) (r : ReadsOn marks bytes line₀ from tones₀ line at tones) where
+  module _ {line₀ : Line} {from : ℕ} {tones₀ : List ℕ} (line : Line) (at : ℕ) (tones : List ℕ)
+      (r : ReadsOn marks bytes line₀ from tones₀ line at tones) where
     pub reads_byte : {next : Line} {kept : List ℕ} → at < length bytes → (get_or bytes at 0 ≡ line_feed → ⊥)
-        → next ≡ next_line marks line (get_or bytes at 0) → kept ≡ next_tones line (get_or bytes at 0) tones → ReadsOn marks bytes line₀ from tones₀ next (at + 1) kept
+        → next ≡ next_line marks line (get_or bytes at 0) → kept ≡ next_tones line (get_or bytes at 0) tones
+        → ReadsOn marks bytes line₀ from tones₀ next (at + 1) kept
     unfolding read_line read_tones
     reads_byte {next} {kept} h n e f =
         let first = byte_first bytes at h n in
@@ -53,7 +55,8 @@ module _ (marks : Bool) (bytes : List ℕ) where
 
     -- nothing is left of the line
     pub all_read : line_from bytes at ≡ []
-        → (◌≡◌ {A = Stretch} (record { line = line; at = at }) (stretch marks line₀ bytes from)) × (tones ≡ read_tones marks line₀ (line_from bytes from) tones₀)
+        → (◌≡◌ {A = Stretch} (record { line = line; at = at }) (stretch marks line₀ bytes from))
+        × (tones ≡ read_tones marks line₀ (line_from bytes from) tones₀)
     unfolding read_line read_tones stretch
     all_read e =
         let whole : line ≡ read_line marks line₀ (line_from bytes from) = sym (r.the_line ∙ ap (read_line marks line) e) in

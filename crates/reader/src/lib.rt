@@ -2,7 +2,8 @@
 #![tactic(auto)]
 
 ghost use Rattle.std.specs.Prelude.{◌≡◌};
-ghost use Rattle.reader.specs.Reader.{with_digit, with_mark, word_end, kept_tone, is_blank, line_end, end_tones, is_read, line_from, stretch, read_tones};
+ghost use Rattle.reader.specs.Reader.{with_digit, with_mark, word_end, kept_tone};
+ghost use Rattle.reader.specs.Reader.{is_blank, line_end, end_tones, is_read, line_from, stretch, read_tones};
 
 use chain::MISSING;
 use text::{LINE_FEED, SPACE};

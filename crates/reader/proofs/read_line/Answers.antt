@@ -32,14 +32,17 @@ loop-at-preserved c =
       | then-is_ascii_digit w ↦
           let is = digit ∙ w.if-is_ascii_digit.true in
           let next = at_digit _ _ _ l.tones is in
-          reads_byte _ _ _ _ _ l.invariant (omega arith) (digit_no_feed _ is) (w.line-is ∙ ap (with_word l.line) w.with_digit-line.ensures ∙ next.0) (w.tones-is ∙ next.1)
+          reads_byte _ _ _ _ _ l.invariant (omega arith) (digit_no_feed _ is)
+          (w.line-is ∙ ap (with_word l.line) w.with_digit-line.ensures ∙ next.0) (w.tones-is ∙ next.1)
       | else-is_ascii_digit+else-byte-eq-LINE_FEED+then-byte-eq-SPACE w ↦
           let next = at_space c.args.marks l.line _ l.tones w.if-byte-eq-SPACE.true in
           let ended = w.word_end-line.ensures in
-          reads_byte _ _ _ _ _ l.invariant (omega arith) w.if-byte-eq-LINE_FEED.false (w.line-is ∙ ended.answer ∙ next.0) (w.tones-is ∙ ended.output ∙ next.1)
+          reads_byte _ _ _ _ _ l.invariant (omega arith) w.if-byte-eq-LINE_FEED.false
+          (w.line-is ∙ ended.answer ∙ next.0) (w.tones-is ∙ ended.output ∙ next.1)
       | else-is_ascii_digit+else-byte-eq-LINE_FEED+else-byte-eq-SPACE+then-byte-eq45+then-marks w ↦
           let next = at_mark _ _ _ l.tones w.if-byte-eq45.true w.if-marks.true in
-          reads_byte _ _ _ _ _ l.invariant (omega arith) w.if-byte-eq-LINE_FEED.false (w.line-is ∙ ap (with_word l.line) w.with_mark-line.ensures ∙ next.0) (w.tones-is ∙ next.1)
+          reads_byte _ _ _ _ _ l.invariant (omega arith) w.if-byte-eq-LINE_FEED.false
+          (w.line-is ∙ ap (with_word l.line) w.with_mark-line.ensures ∙ next.0) (w.tones-is ∙ next.1)
       | else-is_ascii_digit+else-byte-eq-LINE_FEED+else-byte-eq-SPACE+else-byte-eq45 w ↦
           let none : (c.args.marks ≡ false) ⊎ (_ ≡ hyphen → ⊥) = elim w.else-byte-eq45.branch [
             | else-byte-eq45-via-then-byte-eq45+else-marks v ↦ inl v.if-marks.false
@@ -51,6 +54,7 @@ loop-at-preserved c =
 
 pub returns : goal.returns
 returns c =
-    let end : c.max.result ≡ c.loop-at.at = c.max.ensures ∙ end_place _ _ _ _ _ c.loop-at.invariant c.loop-at.auto.at-end (omega arith) (omega arith) in
+    let l = c.loop-at in
+    let end : c.max.result ≡ l.at = c.max.ensures ∙ end_place _ _ _ _ _ l.invariant l.auto.at-end (omega arith) (omega arith) in
     let all = all_read _ _ _ _ _ c.loop-at.invariant (none_left _ _ (omega arith)) in
     rw end (record { answer = all.0; output = all.1 })
