@@ -1,5 +1,6 @@
 -- The functions that go through the rows of a table, over plain variables.
-use Rattle.std.proofs.Common.{◌≡◌, refl, sym, ◌∙◌, ap, Bool, true, false, cond, List, [], ◌∷◌, ℕ, ◌+◌, ◌<◌, max, length, drop, get_or, eqb, ltb, drop-cons, drop_of_length-le, add-one, arith, Result, nat_cmp, Less, Equal, Greater, is_lt, Ok, Err}
+use Rattle.std.proofs.Common.{◌≡◌, refl, sym, ◌∙◌, ap, Bool, true, false, cond, List, [], ◌∷◌, ℕ, ◌+◌, ◌<◌, max, length, drop, get_or}
+use Rattle.std.proofs.Common.{eqb, ltb, drop-cons, drop_of_length-le, add-one, arith, Result, nat_cmp, Less, Equal, Greater, is_lt, Ok, Err}
 use Rattle.std.specs.Ordering.{ord_max}
 use Rattle.std.proofs.lemmas.Bool.{ltb-true, ltb-false}
 use borrow.Author.Tests.{eq-eqb, ne_eqb}
@@ -145,7 +146,9 @@ module _ (table : List Entry) (n : ℕ) where
 
     pub pattern_found : number entry ≡ n → IsPatternOf n (listed table) (get_or table i d).pattern.now
     unfolding pattern_in
-    pattern_found e = record { same = sym (from_first ∙ (rw (eq-eqb (number entry) n e))); some = row_some (number entry) entry.pattern first_left.row }
+    pattern_found e =
+        let here : pattern_in (entry ∷ rest) n ≡ entry.pattern = rw (eq-eqb (number entry) n e) in
+        record { same = sym (from_first ∙ here); some = row_some (number entry) entry.pattern first_left.row }
 
     pub pattern_later : (number entry ≡ n → ⊥) → PatternLeft (i + 1)
     unfolding pattern_in

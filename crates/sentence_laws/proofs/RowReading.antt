@@ -49,7 +49,8 @@ module _ (ps : List ℕ) (l : ℕ) (h : l ≤ most_lead_of ps) where
 -- ---- a sentence is read back
 
 -- by its own row
-found_own : (r : Row) (x : Refusal) (bytes : List ℕ) → IsRow (number r) r.pattern → number r ≡ number_of x.reason → x.place ≤ most_place → x.lead ≤ most_lead_of r.pattern
+found_own : (r : Row) (x : Refusal) (bytes : List ℕ) → IsRow (number r) r.pattern → number r ≡ number_of x.reason
+    → x.place ≤ most_place → x.lead ≤ most_lead_of r.pattern
     → bytes ≡ filled x.place x.lead r.pattern → ((matched r.pattern bytes).whole ≡ true) × (found r bytes ≡ x)
 found_own r x bytes row numbered place lead text =
     let small : x.lead ≤ most_lead = lead_small r.pattern x.lead lead in

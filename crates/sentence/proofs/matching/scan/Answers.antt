@@ -29,5 +29,6 @@ returns c =
     c.then_some.ensures ∙ scan_told l.count l.value _ (rw l.invariant.0 (elim c.loop-c-test.branch [
       | else-loop-c-test w ↦ scans_all limit bytes l.c-index l.value w.loop-c-test.false (omega arith) l.invariant.2
       | then-loop-c-test+then-not-may_follow w ↦
-          scans_stop limit bytes l.c-index l.value w.loop-c-test.true l.invariant.2 (rw l.invariant.0 at w.may_follow.ensures) w.if-not-may_follow.true
+          scans_stop limit bytes l.c-index l.value w.loop-c-test.true l.invariant.2 (rw l.invariant.0 at w.may_follow.ensures)
+          w.if-not-may_follow.true
     ]))

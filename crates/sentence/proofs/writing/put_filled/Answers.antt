@@ -11,7 +11,8 @@ unfolding filled
 loop-p-init c = put_none c.args.out.now
 
 -- the next piece has room
-room : (c : In-loop-p) → c.loop-p.at + length (piece_text c.args.place c.args.lead (get_or c.args.pattern.now c.loop-p.p-index 0)) ≤ length c.args.out.now
+room : (c : In-loop-p)
+    → c.loop-p.at + length (piece_text c.args.place c.args.lead (get_or c.args.pattern.now c.loop-p.p-index 0)) ≤ length c.args.out.now
 room c =
     let l = c.loop-p in
     omega (arith, l.invariant.0, c.requires, filled_room c.args.place c.args.lead c.args.pattern.now l.p-index c.loop-p-test.true)
