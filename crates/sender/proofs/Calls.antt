@@ -19,10 +19,12 @@ pub data CallCase (q : Queues) : Call → Answer → Queues → Type 0 where
   not_sent : (tones : List ℕ) (r : Refusal) → CallCase q (send tones) (to_send (Err r)) q
   none : (tones : List ℕ) → ((d : ℕ) → d < 30 → waiting q d ≡ 0) → CallCase q (send tones) (to_send (Ok None)) q
   serves : (tones : List ℕ) → next_depot q < 30 → 0 < waiting q (next_depot q)
-      → CallCase q (send tones) (to_send (Ok (Some (record { depot = next_depot q; mode = (oldest q (next_depot q)).mode })))) (served q (next_depot q))
+      → CallCase q (send tones) (to_send (Ok (Some (record { depot = next_depot q; mode = (oldest q (next_depot q)).mode }))))
+      (served q (next_depot q))
 
 module _ (q : Queues) where
-  hand_call : (depot : ℕ) (b : Block) (a : Answered Unit) → HandCase (waiting q) depot b a → CallCase q (hand depot b) (to_hand a) (handed_by a q depot b)
+  hand_call : (depot : ℕ) (b : Block) (a : Answered Unit) → HandCase (waiting q) depot b a
+      → CallCase q (hand depot b) (to_hand a) (handed_by a q depot b)
   unfolding handed_by
   hand_call depot b a (HandCase.faulty r h) = CallCase.not_taken depot b r
   hand_call depot b a (HandCase.full l h) = CallCase.not_taken depot b (refused_at Reason.DepotFull depot)

@@ -56,7 +56,8 @@ module _ (counts : ℕ → ℕ) (depot : ℕ) (b : Block) where
       depot_check : (t : Bool) → ltb 29 depot ≡ t
           → HandCase counts depot b
           (cond t (Err (refused_at Reason.Depot 0))
-          (cond (leb 8 (counts depot)) (Err (refused_at Reason.DepotFull depot)) (cond (ltb 150 sum) (Err (refused_at Reason.AllFull depot)) (Ok (tt {0})))))
+          (cond (leb 8 (counts depot)) (Err (refused_at Reason.DepotFull depot))
+          (cond (ltb 150 sum) (Err (refused_at Reason.AllFull depot)) (Ok (tt {0})))))
       depot_check true e = HandCase.faulty (refused_at Reason.Depot 0) (omega arith)
       depot_check false e = own_check (omega (arith, ltb-false 29 depot e)) (leb 8 (counts depot)) refl
 

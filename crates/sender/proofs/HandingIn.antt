@@ -31,7 +31,8 @@ module _ (state : List ℕ) (depot : ℕ) (b : Block) where
       record { answered = λ n. sym e; other_size = λ ne. absurd (ne size); kept = λ s p. refl },
     )
 
-  module _ (size : length state ≡ 1532) (next : List ℕ) (e : hand_answer (counts_in state) depot b ≡ (Ok (tt {0}))) (stored : Stored state depot b next) where
+  module _ (size : length state ≡ 1532) (next : List ℕ) (e : hand_answer (counts_in state) depot b ≡ Ok (tt {0}))
+      (stored : Stored state depot b next) where
     module _ (calls : List Call) (h : Holds (run new calls) state) where
       taken : hand_answer (waiting (run new calls)) depot b ≡ (Ok (tt {0}))
       taken = sym (answer_held (run new calls) h) ∙ e
@@ -43,7 +44,8 @@ module _ (state : List ℕ) (depot : ℕ) (b : Block) where
       taken_left : Holds (after (run new calls) (hand depot b)) next
       taken_left =
           let t = taken_checks (waiting (run new calls)) depot b taken in
-          let fit = rw now_joined at (places_suffice (after (run new calls) (hand depot b)) (after_sound (run new calls) (reached calls) (hand depot b))) in
+          let sound = after_sound (run new calls) (reached calls) (hand depot b) in
+          let fit = rw now_joined at (places_suffice (after (run new calls) (hand depot b)) sound) in
           rw now_joined (stored.left (run new calls) h (omega (arith, fit, joined_total (run new calls) depot b t.known)) t.right.count)
 
     pub taken_in : HandedIn state depot b (Ok (tt {0})) next × HandedToAny state depot b (Ok (tt {0})) next

@@ -32,7 +32,8 @@ module _ (q : Queues) (room : ℕ) where
     unfolding send_answer
     answers_none h = simp (le-ltb room 64 enough, le-ltb (ahead q.turn (waiting q)) 30 h)
 
-    answers_block : ahead q.turn (waiting q) < 30 → send_answer q room ≡ Ok (Some (record { depot = next_depot q; mode = (oldest q (next_depot q)).mode }))
+    answers_block : ahead q.turn (waiting q) < 30
+        → send_answer q room ≡ Ok (Some (record { depot = next_depot q; mode = (oldest q (next_depot q)).mode }))
     unfolding send_answer
     answers_block h = simp (le-ltb room 64 enough, lt-ltb (ahead q.turn (waiting q)) 30 h)
 

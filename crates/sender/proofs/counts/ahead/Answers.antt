@@ -11,4 +11,5 @@ returns c =
     let a = c.args in
     let some = λ (k : ℕ). ltb 0 (counts_in a.state.now ((a.turn + k) % 30)) in
     found_below some 30 _
-    (first_from_Range _ _ _ _ (λ k. some k ≡ true) (λ k. some k ≡ false) c.find.ensures.ran (λ k q h. search (rules, tests)) (λ k q h. search (rules, tests)))
+    (first_from_Range _ _ _ _ (λ k. some k ≡ true) (λ k. some k ≡ false) c.find.ensures.ran (λ k q h. search (rules, tests))
+    (λ k q h. search (rules, tests)))

@@ -13,10 +13,12 @@ returns-then-own-ge8 c = ap Err c.at-then-own-ge8.ensures ∙ sym (refuses_full 
 pub returns-then-share-reserved : goal.returns-then-share-reserved
 returns-then-share-reserved c =
     let a = c.args in
+    let sums = one_more_reserved (counts_in a.state.now) a.depot (omega arith) in
     ap Err c.at-then-share-reserved.ensures
-    ∙ sym (refuses_sum (counts_in a.state.now) a.depot (omega arith) (omega arith) (omega (arith, one_more_reserved (counts_in a.state.now) a.depot (omega arith))))
+    ∙ sym (refuses_sum (counts_in a.state.now) a.depot (omega arith) (omega arith) (omega (arith, sums)))
 
 pub returns : goal.returns
 returns c =
     let a = c.args in
-    sym (takes_block (counts_in a.state.now) a.depot (omega arith) (omega arith) (omega (arith, one_more_reserved (counts_in a.state.now) a.depot (omega arith))))
+    let sums = one_more_reserved (counts_in a.state.now) a.depot (omega arith) in
+    sym (takes_block (counts_in a.state.now) a.depot (omega arith) (omega arith) (omega (arith, sums)))

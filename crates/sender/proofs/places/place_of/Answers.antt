@@ -1,13 +1,25 @@
-use Rattle.std.proofs.Common.{rules, tests, ◌≡◌, true, false, ℕ}
-use Rattle.std.proofs.lemmas.Iterator.{first_from_Range}
-use Rattle.sender.specs.Internal.{is_of, place_with}
-use Rattle.sender.proofs.Searches.{found_below}
+use Rattle.std.proofs.Common.{◌≡◌, ◌∙◌, sym, arith, eq-eqb, ne_eqb}
+use Rattle.lists.proofs.Found.{found_at, found_past}
+use Rattle.lists.proofs.Places.{scan_start, scan_hit, scan_miss, scan_end}
+use Rattle.sender.specs.Internal.{place_with}
 use Rattle.sender.proofs.places.place_of.Goals as goal
 
-pub returns-clause-place : goal.returns-clause-place
+pub loop-i-init : goal.loop-i-init
 unfolding place_with
-returns-clause-place c =
+loop-i-init c = scan_start _ _
+
+pub returns-then-state-i-clause-place : goal.returns-then-state-i-clause-place
+returns-then-state-i-clause-place c =
+    let l = c.loop-i in
     let a = c.args in
-    let own = λ (i : ℕ). is_of a.depot a.state.now i in
-    found_below own a.count _
-    (first_from_Range _ _ _ _ (λ i. own i ≡ true) (λ i. own i ≡ false) c.find.ensures.ran (λ i q h. search (rules, tests)) (λ i q h. search (rules, tests)))
+    let here : place_with a.depot a.state.now a.count ≡ l.i = sym l.invariant ∙ scan_hit _ l.i _ c.loop-i-test.true (eq-eqb _ _ c.if-state-i.true) in
+    rw here (sym (found_at a.count l.i c.loop-i-test.true))
+
+pub loop-i-preserved : goal.loop-i-preserved
+loop-i-preserved c = scan_miss _ c.loop-i.i _ c.loop-i-test.true (ne_eqb _ _ c.if-state-i.false) ∙ c.loop-i.invariant
+
+pub returns-clause-place : goal.returns-clause-place
+returns-clause-place c =
+    let l = c.loop-i in
+    let past = sym l.invariant ∙ scan_end _ l.i _ c.loop-i-test.false in
+    sym (found_past c.args.count _ (omega (arith, past)))
