@@ -1,5 +1,5 @@
 -- The tests of `locate`, in a band of right settings, and its answers, one by one.
-use Rattle.std.proofs.Common.{Option, Some, None, Ok, Err}
+use Rattle.std.proofs.Common.{Option, Some, None}
 use Rattle.std.specs.Option.{option_map, option_or}
 use Rattle.refusal.specs.declared.Reason.{Reason}
 use mathlib.Core.Path.{◌≡◌, refl, sym, ap, ◌∙◌}
@@ -16,11 +16,10 @@ use lib.Ieee.Scale.{finite}
 use lib.Dec.{T}
 use lib.Pow.{pow_mono}
 use Rattle.refusal.specs.Refused.{refused_at}
-use Rattle.refusal.specs.declared.Refusal.{Refusal}
 use Rattle.refusal.proofs.Limits.{mode_tones}
 use Rattle.scaled_order.specs.Order.{at_least}
 use Rattle.scaled_order.proofs.Comparing.{compared}
-use Rattle.band.specs.Limits.{fault, answered}
+use Rattle.band.specs.Limits.{fault}
 use Rattle.band.specs.Frequencies.{edge512, band_of}
 use Rattle.band.specs.Locating.{tone_edge512, owner_of, upper512, in_band, heard_as, settled, located_of, refusal_of, measured_fault, locate_fault}
 use Rattle.band.specs.declared.Located.{Located}
@@ -89,15 +88,6 @@ module _ (b w c : ℕ) (x : Float) (e : fault b w c 0 ≡ None) where
 -- ---- the answers
 
 module _ (b w c : ℕ) (x : Float) where
-  pub located_refused : (r : Refusal) → answered (fault b w c 0) (tt {0}) ≡ Err r → Located.Refused r ≡ located_of b w c x
-  unfolding located_of
-  located_refused r e = by (fault b w c 0) e
-    where
-      by : (p : Option Reason) → answered p (tt {0}) ≡ Err r
-          → Located.Refused r ≡ settled p (cond (not (finite x)) Located.NotFinite (cond (not (in_band w c x)) Located.OutsideBand (heard_as b w c x (owner_of b w c x))))
-      by None e = absurd cc
-      by (Some reason) e = let same : refused_at reason 0 ≡ r = cc in ap Located.Refused (sym same)
-
   module _ (e : fault b w c 0 ≡ None) where
     pub located_not_finite : finite x ≡ false → Located.NotFinite ≡ located_of b w c x
     unfolding located_of
@@ -112,17 +102,15 @@ module _ (b w c : ℕ) (x : Float) where
     located_heard f h = rw (e, f, h)
 
   -- an answer is the refusal of the first check that fails, if one does
-  reasoned : refusal_of (located_of b w c x) ≡ option_map (λ reason. refused_at reason 0) (locate_fault b w c x)
+  pub told : (r : Located) → r ≡ located_of b w c x → refusal_of r ≡ option_map (λ reason. refused_at reason 0) (locate_fault b w c x)
   unfolding located_of locate_fault measured_fault heard_as
-  reasoned = by (fault b w c 0) (finite x) (in_band w c x)
+  told r e = ap refusal_of e ∙ by (fault b w c 0) (finite x) (in_band w c x)
     where
       by : (p : Option Reason) (q r : Bool)
           → refusal_of (settled p (cond (not q) Located.NotFinite (cond (not r) Located.OutsideBand (heard_as b w c x (owner_of b w c x)))))
-          ≡ option_map (λ reason. refused_at reason 0) (option_or p (cond (not q) (Some Reason.NotFinite) (cond (not r) (Some Reason.OutsideBand) None)))
+          ≡ option_map (λ reason. refused_at reason 0)
+          (option_or p (cond (not q) (Some Reason.NotFinite) (cond (not r) (Some Reason.OutsideBand) None)))
       by (Some reason) q r = refl
       by None false r = refl
       by None true false = refl
       by None true true = refl
-
-  pub told : (r : Located) → r ≡ located_of b w c x → refusal_of r ≡ option_map (λ reason. refused_at reason 0) (locate_fault b w c x)
-  told r e = ap refusal_of e ∙ reasoned

@@ -60,7 +60,7 @@ heard b w c n x off e = by (fault b w c 0) refl (finite x) (in_band w c x) refl 
     by None right true true l e =
         let owner = owner_owns b w c x right l in
         let is : owner_of b w c x ≡ n = cc in
-        record { right = right; few = rw is at owner.0; owner = rw is at owner.1; distance = rw (← is) (cc) }
+        record { right = right; few = rw is at owner.0; owner = rw is at owner.1; distance = cc }
     by None right true false l e = absurd cc
     by None right false r l e = absurd cc
     by (Some reason) k q r l e = absurd cc
@@ -77,7 +77,8 @@ owned_heard : (b w c n : ℕ) (x : Float) → fault b w c n ≡ None → owns b 
 owned_heard b w c n x e h =
     let right = tone_0 b w c n e in
     let few = tone_range b w c n e in
-    sym (located_heard b w c x right (owned_finite b w c n x h) (owned_in_band b w c x right n few h)) ∙ ap (heard_as b w c x) (owner_is b w c x n few h)
+    sym (located_heard b w c x right (owned_finite b w c n x h) (owned_in_band b w c x right n few h))
+    ∙ ap (heard_as b w c x) (owner_is b w c x n few h)
 
 -- ---- a tone lies half a spacing from either end of its stretch
 

@@ -98,6 +98,7 @@ pub fn frequency(mode: u32, width: u32, centre: u32, tone: u16) -> Result<f64, R
 }
 
 // The tone that a measured frequency in Hz belongs to, and the measurement less that tone's frequency.
+#[tactic(auto, unfolding(crate::specs::Locating::located_of, crate::specs::Locating::locate_fault))]
 pub fn locate(mode: u32, width: u32, centre: u32, hertz: f64) -> Located
     ensures answer { result ≡ located_of mode width centre hertz }
     ensures refusal { refusal_of result ≡ option_map (λ reason. refused_at reason 0) (locate_fault mode width centre hertz) }

@@ -11,14 +11,9 @@ use Rattle.band.specs.declared.Located.{Located}
 use Rattle.band.proofs.Settings.{passes, passed}
 use Rattle.band.proofs.Formulas.{tone_hertz_exact}
 use Rattle.band.proofs.Owners.{owner_owns}
-use Rattle.band.proofs.Locating.{as_finite, held, from_first, owner_found, located_refused, located_not_finite, located_outside, located_heard, told}
+use Rattle.band.proofs.Locating.{as_finite, held, from_first, owner_found, located_not_finite, located_outside, located_heard, told}
 use Rattle.band.proofs.locate.Goals as goal
 use Rattle.band.proofs.locate.Goals.{In_default, Else-not-is_finite, After-holds}
-
-pub returns-in-Err : goal.returns-in-Err
-returns-in-Err c =
-    let e = located_refused _ _ _ _ _ (sym c.check.ensures ∙ c.in-Err.is) in
-    record { answer = e; refusal = told _ _ _ _ _ e }
 
 -- what holds where the settings are right, then where the measurement is finite, then where it is in the band
 
@@ -37,7 +32,8 @@ is_finite c = sym (as_finite _) ∙ sym c.is_finite.ensures.value ∙ c.if-not-i
 pub band_of-band-requires : goal.band_of-band-requires
 band_of-band-requires c = right (goal.at.band_of-band-requires c).In_default
 
-in_band_by : (c : After-holds) → let a = c.args in fault a.mode a.width a.centre 0 ≡ None → finite a.hertz ≡ true → c.holds.result ≡ in_band a.width a.centre a.hertz
+in_band_by : (c : After-holds) → let a = c.args in fault a.mode a.width a.centre 0 ≡ None → finite a.hertz ≡ true
+    → c.holds.result ≡ in_band a.width a.centre a.hertz
 in_band_by c e f =
     let a = c.args in
     c.holds.ensures
@@ -59,7 +55,8 @@ pub owner-tone-requires-clause-between : goal.owner-tone-requires-clause-between
 owner-tone-requires-clause-between c =
     let at = goal.at.owner-tone-requires-clause-between c in
     let settings = right at.In_default in
-    rw c.band_of-band.ensures (from_first _ _ _ _ settings (sym (in_band_by at.After-holds settings (is_finite at.Else-not-is_finite)) ∙ c.if-not-holds.false))
+    let inside = sym (in_band_by at.After-holds settings (is_finite at.Else-not-is_finite)) ∙ c.if-not-holds.false in
+    rw c.band_of-band.ensures (from_first _ _ _ _ settings inside)
 
 pub returns : goal.returns
 unfolding heard_as
