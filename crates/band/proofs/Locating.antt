@@ -1,8 +1,9 @@
 -- The tests of `locate`, in a band of right settings, and its answers, one by one.
-use Rattle.std.proofs.Common.{None, Ok, Err}
+use Rattle.std.proofs.Common.{Option, Some, None}
+use Rattle.std.specs.Option.{option_map, option_or}
 use Rattle.refusal.specs.declared.Reason.{Reason}
 use mathlib.Core.Path.{◌≡◌, refl, sym, ap, ◌∙◌}
-use mathlib.Core.Bool.{Bool, true, false, true≢false, not}
+use mathlib.Core.Bool.{Bool, true, false, true≢false, cond, not}
 use Prim.Native.Nat.{ℕ, suc, ◌%◌, ◌^◌, ◌≤◌}
 use native.Mathlib.Omega.{arith}
 use lib.Ieee.{Float, nan, inf, fin, lt, le, is_nan}
@@ -20,7 +21,8 @@ use Rattle.scaled_order.specs.Order.{at_least}
 use Rattle.scaled_order.proofs.Comparing.{compared}
 use Rattle.band.specs.Limits.{fault}
 use Rattle.band.specs.Frequencies.{edge512, band_of}
-use Rattle.band.specs.Locating.{tone_edge512, owner_of, upper512, in_band, heard_as, measured_fault, locate_fault, located_of}
+use Rattle.band.specs.Locating.{tone_edge512, owner_of, upper512, in_band, heard_as, settled, located_of, refusal_of, measured_fault, locate_fault}
+use Rattle.band.specs.declared.Located.{Located}
 use Rattle.band.specs.Internal.{tone_edge_in, holds_in, Between, OwnerIn}
 use Rattle.band.proofs.Settings.{passed, within}
 use Rattle.band.proofs.Formulas.{tone_edge_exact}
@@ -85,15 +87,30 @@ module _ (b w c : ℕ) (x : Float) (e : fault b w c 0 ≡ None) where
 
 -- ---- the answers
 
-module _ (b w c : ℕ) (x : Float) (e : fault b w c 0 ≡ None) where
-  pub located_not_finite : finite x ≡ false → Err (refused_at Reason.NotFinite 0) ≡ located_of b w c x
-  unfolding located_of locate_fault measured_fault
-  located_not_finite f = rw (e, f)
+module _ (b w c : ℕ) (x : Float) where
+  module _ (e : fault b w c 0 ≡ None) where
+    pub located_not_finite : finite x ≡ false → Located.NotFinite ≡ located_of b w c x
+    unfolding located_of
+    located_not_finite f = rw (e, f)
 
-  pub located_outside : finite x ≡ true → in_band w c x ≡ false → Err (refused_at Reason.OutsideBand 0) ≡ located_of b w c x
-  unfolding located_of locate_fault measured_fault
-  located_outside f h = rw (e, f, h)
+    pub located_outside : finite x ≡ true → in_band w c x ≡ false → Located.OutsideBand ≡ located_of b w c x
+    unfolding located_of
+    located_outside f h = rw (e, f, h)
 
-  pub located_heard : finite x ≡ true → in_band w c x ≡ true → Ok (heard_as b w c x (owner_of b w c x)) ≡ located_of b w c x
-  unfolding located_of locate_fault measured_fault
-  located_heard f h = rw (e, f, h)
+    pub located_heard : finite x ≡ true → in_band w c x ≡ true → heard_as b w c x (owner_of b w c x) ≡ located_of b w c x
+    unfolding located_of
+    located_heard f h = rw (e, f, h)
+
+  -- an answer is the refusal of the first check that fails, if one does
+  pub told : (r : Located) → r ≡ located_of b w c x → refusal_of r ≡ option_map (λ reason. refused_at reason 0) (locate_fault b w c x)
+  unfolding located_of locate_fault measured_fault heard_as
+  told r e = ap refusal_of e ∙ by (fault b w c 0) (finite x) (in_band w c x)
+    where
+      by : (p : Option Reason) (q r : Bool)
+          → refusal_of (settled p (cond (not q) Located.NotFinite (cond (not r) Located.OutsideBand (heard_as b w c x (owner_of b w c x)))))
+          ≡ option_map (λ reason. refused_at reason 0)
+          (option_or p (cond (not q) (Some Reason.NotFinite) (cond (not r) (Some Reason.OutsideBand) None)))
+      by (Some reason) q r = refl
+      by None false r = refl
+      by None true false = refl
+      by None true true = refl

@@ -7,11 +7,12 @@ use Rattle.std.specs.Float.Ieee.{sub}
 use Rattle.std.specs.Float.Ieee.Scale.{finite}
 use Rattle.lists.specs.Places.{first}
 use Rattle.refusal.specs.declared.Reason.{Reason}
-use Rattle.refusal.specs.Refused.{Answered}
+use Rattle.refusal.specs.Refused.{refused_at}
+use Rattle.refusal.specs.declared.Refusal.{Refusal}
 use Rattle.scaled_order.specs.Order.{at_least}
-use Rattle.band.specs.Limits.{fault, answered}
+use Rattle.band.specs.Limits.{fault}
 use Rattle.band.specs.Frequencies.{edge512, spacing512, hertz_of}
-use Rattle.band.specs.declared.Heard.{Heard}
+use Rattle.band.specs.declared.Located.{Located}
 
 -- the lower edge plus n spacings
 unfoldable pub tone_edge512 : ℕ → ℕ → ℕ → ℕ → ℕ
@@ -34,8 +35,30 @@ unfoldable pub in_band : ℕ → ℕ → Float → Bool
 in_band w c x = at_least (edge512 w c) x && not (at_least (upper512 w c) x)
 
 -- x as one of tone n: with the measurement minus that tone's frequency, one f64 subtraction
-unfoldable pub heard_as : ℕ → ℕ → ℕ → Float → ℕ → Heard
-heard_as b w c x n = record { tone = n; hertz_off = sub binary64 x (hertz_of b w c n) }
+unfoldable pub heard_as : ℕ → ℕ → ℕ → Float → ℕ → Located
+heard_as b w c x n = Located.Heard n (sub binary64 x (hertz_of b w c n))
+
+-- the refusal of a check of the settings that failed, or else what is said of the measurement
+abbrev pub settled : Option Reason → Located → Located
+settled None said = said
+settled (Some reason) said = Located.Refused (refused_at reason 0)
+
+-- checks 1, 3 and 4, where tone 0 is one of every mode; then 15 and 16
+unfoldable pub located_of : ℕ → ℕ → ℕ → Float → Located
+located_of b w c x =
+    settled (fault b w c 0)
+    (cond (not (finite x)) Located.NotFinite
+    (cond (not (in_band w c x)) Located.OutsideBand
+    (heard_as b w c x (owner_of b w c x))))
+
+-- ---- the paper's reasons
+
+-- the refusal that each case is; a tone is none
+abbrev pub refusal_of : Located → Option Refusal
+refusal_of (Located.Heard n off) = None
+refusal_of Located.NotFinite = Some (refused_at Reason.NotFinite 0)
+refusal_of Located.OutsideBand = Some (refused_at Reason.OutsideBand 0)
+refusal_of (Located.Refused r) = Some r
 
 -- the checks of a measurement, after those of its settings
 unfoldable pub measured_fault : ℕ → ℕ → Float → Option Reason
@@ -44,9 +67,6 @@ measured_fault w c x =
     (cond (not (in_band w c x)) (Some Reason.OutsideBand)
     None)
 
--- the first check that fails, if one does; tone 0 is one of every mode
+-- the first check that fails, if one does
 unfoldable pub locate_fault : ℕ → ℕ → ℕ → Float → Option Reason
 locate_fault b w c x = option_or (fault b w c 0) (measured_fault w c x)
-
-unfoldable pub located_of : ℕ → ℕ → ℕ → Float → Answered Heard
-located_of b w c x = answered (locate_fault b w c x) (heard_as b w c x (owner_of b w c x))

@@ -3,10 +3,12 @@
 #![tactic(auto)]
 
 ghost use Rattle.std.specs.Prelude.{true, ◌≡◌, None, ◌%◌, ◌^◌, ltb};
+ghost use Rattle.std.specs.Option.{option_map};
 ghost use Rattle.refusal.specs.Checks.{is_mode};
+ghost use Rattle.refusal.specs.Refused.{refused_at};
 ghost use Rattle.band.specs.Limits.{is_width, is_centre, fault, answered};
 ghost use Rattle.band.specs.Frequencies.{band_of, hertz_in, plan, frequency_of};
-ghost use Rattle.band.specs.Locating.{located_of};
+ghost use Rattle.band.specs.Locating.{located_of, refusal_of, locate_fault};
 ghost use Rattle.band.specs.Internal.{tone_edge_in, holds_in, Between, OwnerIn};
 
 use refusal::{Reason, Refusal, checks};
@@ -20,11 +22,14 @@ pub struct Band {
     pub spacing: f64,
 }
 
-// The tone that a measurement belongs to, and how many Hz the measurement is off that tone.
+// The tone that a measurement belongs to and how many Hz it is off that tone, or why there is none. It is no Result: document 01 names
+// these four cases.
 #[derive(Clone, Copy)]
-pub struct Heard {
-    pub tone: u16,
-    pub hertz_off: f64,
+pub enum Located {
+    Heard(u16, f64),
+    NotFinite,
+    OutsideBand,
+    Refused(Refusal),
 }
 
 impl Band {
@@ -94,23 +99,23 @@ pub fn frequency(mode: u32, width: u32, centre: u32, tone: u16) -> Result<f64, R
 
 // The tone that a measured frequency in Hz belongs to, and the measurement less that tone's frequency.
 #[tactic(auto, unfolding(crate::specs::Locating::located_of, crate::specs::Locating::locate_fault))]
-pub fn locate(mode: u32, width: u32, centre: u32, hertz: f64) -> Result<Heard, Refusal>
-    ensures { result ≡ located_of mode width centre hertz }
+pub fn locate(mode: u32, width: u32, centre: u32, hertz: f64) -> Located
+    ensures answer { result ≡ located_of mode width centre hertz }
+    ensures refusal { refusal_of result ≡ option_map (λ reason. refused_at reason 0) (locate_fault mode width centre hertz) }
 {
     // Tone 0 is one of every mode.
-    check(mode, width, centre, 0)?;
+    if let Err(refusal) = check(mode, width, centre, 0) {
+        return Located::Refused(refusal);
+    }
     if !hertz.is_finite() {
-        return Err(Refusal::at(Reason::NotFinite, 0));
+        return Located::NotFinite;
     }
     let band = band_of(mode, width, centre);
     if !band.holds(mode, hertz) {
-        return Err(Refusal::at(Reason::OutsideBand, 0));
+        return Located::OutsideBand;
     }
     let tone = band.owner(mode, hertz);
-    Ok(Heard {
-        tone,
-        hertz_off: hertz - band.hertz(tone),
-    })
+    Located::Heard(tone, hertz - band.hertz(tone))
 }
 
 // The refusal of the first check that fails, if one does.

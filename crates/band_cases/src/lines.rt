@@ -1,7 +1,7 @@
 // A call of an entry and its line: what it is given, and the answer. A frequency is told as its whole number of 1/512 Hz and
 // as the bit pattern of the f64, which tells it apart from every other; a measurement and its distance as the pattern alone.
-use band::{Band, Heard};
-use refusal::{Reason, Refusal};
+use band::{Band, Located};
+use refusal::Refusal;
 use std::io;
 
 fn refused(rt: &impl Print, refusal: Refusal) -> io::Result<()> {
@@ -69,15 +69,13 @@ pub fn locate(rt: &impl Print, mode: u32, width: u32, centre: u32, hertz: f64) -
     print!(rt; " measured ")?;
     pattern(rt, hertz)?;
     match band::locate(mode, width, centre, hertz) {
-        Ok(Heard { tone, hertz_off }) => {
+        Located::Heard(tone, off) => {
             print!(rt; ": tone {tone} off ")?;
-            pattern(rt, hertz_off)?;
+            pattern(rt, off)?;
         }
-        Err(refusal) => match refusal.reason {
-            Reason::NotFinite => print!(rt; ": not finite")?,
-            Reason::OutsideBand => print!(rt; ": outside the band")?,
-            _ => refused(rt, refusal)?,
-        },
+        Located::NotFinite => print!(rt; ": not finite")?,
+        Located::OutsideBand => print!(rt; ": outside the band")?,
+        Located::Refused(refusal) => refused(rt, refusal)?,
     }
     println!(rt; "")
 }
