@@ -1,16 +1,21 @@
 -- What the codes of clear blocks deliver: an equation for each answer of `delivery`, and what a text that is answered shows.
-use mathlib.Core.Path.{◌≡◌, refl, sym}
-use mathlib.Core.Bool.{Bool, true, false, cond}
+use mathlib.Core.Path.{◌≡◌, refl, ◌∙◌, ap}
 use mathlib.Core.List.{List}
 use Prim.Native.Nat.{ℕ, ◌-◌, ◌<◌, ◌≤◌}
+use native.Mathlib.Omega.{arith}
 use borrow.Author.Tests.{lt-ltb, le-ltb, le-leb, lt-leb, ltb-false, leb-false}
-use lib.ListN.{length}
+use lib.ListN.{length, take}
+use lib.Seq.{length-take-le, get_or-take}
+use lib.Dec.{eqb}
 use Rattle.lists.specs.Places.{first}
 use Rattle.refusal.specs.Refused.{Answered, refused_at}
-use Rattle.refusal.specs.declared.Refusal.{Refusal}
-use Rattle.block_decoder.proofs.Clarity.{text_refused}
+use Rattle.refusal.proofs.Agreement.{passes}
+use Rattle.lists.specs.Found.{found}
+use Rattle.lists.proofs.Found.{position_found}
+use Rattle.lists.proofs.Places.{first_ext}
 use Rattle.delivery.specs.Delivery.{is_zero, text_end, first_zero, delivery}
-use Rattle.std.proofs.Common.{Ok, Err}
+use Rattle.delivery.proofs.TextEnds.{end_within}
+use Rattle.std.proofs.Common.{Ok, Err, position}
 use Rattle.refusal.specs.declared.Reason.{Reason}
 
 module _ (limit b : ℕ) (codes : List ℕ) (n : ℕ) (end : n ≡ text_end codes) where
@@ -39,12 +44,15 @@ unfolding delivery first_zero
 delivers limit b codes n d =
     rw (← d.end) (simp (le-ltb (first (is_zero codes) n) n d.no_zero, lt-leb b (length codes - n) d.filling, le-ltb limit n d.fits))
 
--- a text comes of the second of two answers, if the first is a refusal
-pub passes : (t : Bool) (r : Refusal) (n : ℕ) (d : Answered ℕ) → cond t (Err r) d ≡ Ok n → (t ≡ false) × (d ≡ Ok n)
-passes true r n d e = absurd (text_refused (sym e))
-passes false r n d e = (refl, e)
+-- the zeros before the end, as they are looked for
+pub zero_found : (codes : List ℕ) (n : ℕ) → n ≡ text_end codes → position (λ code. eqb code 0) (take n codes) ≡ found n (first (is_zero codes) n)
+zero_found codes n end =
+    let long : length (take n codes) ≡ n = length-take-le n codes (omega (arith, end_within codes)) in
+    position_found (λ code. eqb code 0) (take n codes)
+    ∙ ap (λ (k : ℕ). found k (first (is_zero (take n codes)) k)) long
+    ∙ ap (found n) (first_ext (is_zero (take n codes)) (is_zero codes) n (λ i l. ap (λ (code : ℕ). eqb code 0) (get_or-take n codes i 0 l)))
 
-same_count : {m n : ℕ} → Ok m ≡ Ok n → n ≡ m
+same_count : {m n : ℕ} → ◌≡◌ {A = Answered ℕ} (Ok m) (Ok n) → n ≡ m
 same_count e = cc
 
 pub text_delivered : (limit b : ℕ) (codes : List ℕ) (n : ℕ) → delivery limit b codes ≡ Ok n → Delivered limit b codes n

@@ -1,9 +1,8 @@
 // What the codes of clear blocks deliver: the end of their text, or refusal 11 or 12. Document 01, "Messages".
 #![tactic(auto)]
 
-ghost use Rattle.std.specs.Prelude.{◌≡◌, ◌≤◌, length};
-ghost use Rattle.lists.specs.Places.{first};
-ghost use Rattle.delivery.specs.Delivery.{is_zero, text_end, delivery};
+ghost use Rattle.std.specs.Prelude.{◌≡◌, eqb, position};
+ghost use Rattle.delivery.specs.Delivery.{text_end, delivery};
 
 use refusal::{Reason, Refusal};
 
@@ -14,8 +13,7 @@ pub fn judge(limit: usize, mode: usize, codes: &[u8]) -> Result<usize, Refusal>
     ensures { result ≡ delivery limit mode codes.now }
 {
     let n = text_end(codes);
-    let zero = first_zero(codes, n);
-    if zero < n {
+    if let Some(zero) = first_zero(&codes[..n]) {
         return Err(Refusal::at(Reason::Zero, zero));
     }
     if mode <= codes.len() - n {
@@ -31,27 +29,17 @@ pub fn judge(limit: usize, mode: usize, codes: &[u8]) -> Result<usize, Refusal>
 fn text_end(codes: &[u8]) -> usize
     ensures { result ≡ text_end codes.now }
 {
-    let mut n = codes.len();
-    while 0 < n {
-        if codes[n - 1] != 0 {
-            return n;
+    for i in (0..codes.len()).rev() {
+        if codes[i] != 0 {
+            return i + 1;
         }
-        n -= 1;
     }
-    n
+    0
 }
 
-// The lowest place of a 0 before n, else n.
-fn first_zero(codes: &[u8], n: usize) -> usize
-    requires { n ≤ length codes.now }
-    ensures { result ≡ first (is_zero codes.now) n }
+// The lowest place of a 0, if there is one.
+fn first_zero(codes: &[u8]) -> Option<usize>
+    ensures { result ≡ position (λ code. eqb code 0) codes.now }
 {
-    let mut i: usize = 0;
-    while i < n {
-        if codes[i] == 0 {
-            return i;
-        }
-        i += 1;
-    }
-    i
+    codes.iter().position(|&code| code == 0)
 }

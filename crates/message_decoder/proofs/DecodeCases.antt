@@ -13,7 +13,7 @@ use Rattle.tone_range.specs.Range.{first_bad_tone}
 use Rattle.block_decoder.specs.Decoding.{codes_of, first_unclear, unless_unclear, heard_into}
 use Rattle.block_decoder.proofs.Clarity.{text_told}
 use Rattle.delivery.specs.Delivery.{delivery}
-use Rattle.delivery.proofs.TextCases.{passes}
+use Rattle.refusal.proofs.Agreement.{passes}
 use Rattle.message_encoder.specs.Blocks.{is_whole}
 use Rattle.message_decoder.specs.Decoding.{message_characters, decode_message, message_decoded_into}
 use Rattle.std.proofs.Common.{Ok, Err}

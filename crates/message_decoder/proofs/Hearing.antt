@@ -3,7 +3,6 @@ use mathlib.Core.Path.{◌≡◌, refl, sym, ◌∙◌, ap}
 use mathlib.Core.List.{List, ◌++◌}
 use Prim.Native.Nat.{ℕ, ◌+◌, ◌-◌, ◌*◌, ◌<◌, ◌≤◌, ◌^◌}
 use native.Mathlib.Decide.{dec_lt}
-use native.Mathlib.Nat.{sub-zero}
 use native.Mathlib.Omega.{arith}
 use borrow.Author.Tests.{lt-ltb, le-ltb, ltb-true, ltb-false}
 use lib.Dec.{ltb}
@@ -79,7 +78,7 @@ module _ (b m : ℕ) (tones : List ℕ) (k n : ℕ) (inside : k < n) where
 
 -- ---- block k
 
-same_refusal : {r s : Refusal} → Err r ≡ Err s → r ≡ s
+same_refusal : {r s : Refusal} → ◌≡◌ {A = Answered ℕ} (Err r) (Err s) → r ≡ s
 same_refusal e = cc
 
 module _ (b m : ℕ) (tones : List ℕ) (k : ℕ) (part : List ℕ) (s : IsSet b m) (w : HasTones (2 ^ b) (block_at tones k)) (size : length part ≡ b) (before : Clear b m tones k) where
@@ -134,20 +133,21 @@ module _ (b m : ℕ) (tones : List ℕ) (k : ℕ) (part : List ℕ) (s : IsSet b
 -- ---- the codes collected
 
 -- the codes with the next block's put
-pub codes_more : (b : ℕ) (tones : List ℕ) (k at : ℕ) (codes last rest : List ℕ) → at ≡ k * b → codes ≡ over (codes_of (heard_characters b tones k)) rest
+pub codes_more : (b : ℕ) (tones : List ℕ) (k : ℕ) (codes last rest : List ℕ) → codes ≡ over (codes_of (heard_characters b tones k)) rest
     → last ≡ codes_of (characters_of b (block_at tones k))
-    → take at codes ++ (last ++ drop (at + b - at) (drop at codes)) ≡ over (codes_of (heard_characters b tones (k + 1))) rest
-codes_more b tones k at codes last rest place e p =
-    let step : at + b - at ≡ b = omega arith in
+    → take (k * b) codes ++ (last ++ drop (k * b + b - k * b) (drop (k * b) codes)) ≡ over (codes_of (heard_characters b tones (k + 1))) rest
+codes_more b tones k codes last rest e p =
+    let step : k * b + b - k * b ≡ b = omega arith in
     let block : List ℕ = codes_of (characters_of b (block_at tones k)) in
     let more : codes_of (heard_characters b tones (k + 1)) ≡ codes_of (heard_characters b tones k) ++ block =
     heard_codes b tones (k + 1) ∙ joined_more (λ i. codes_of (characters_of b (block_at tones i))) k ∙ ap (λ (x : List ℕ). x ++ block) (sym (heard_codes b tones k)) in
-    rw (step, p, more) (over_part (codes_of (heard_characters b tones k)) block rest codes at b (heard_codes_length b tones k ∙ sym place) (codes_length b (block_at tones k) plain) e)
+    rw (step, p, more)
+    (over_part (codes_of (heard_characters b tones k)) block rest codes (k * b) b (heard_codes_length b tones k) (codes_length b (block_at tones k) plain) e)
 
 -- the codes collected stand at the front
 module _ (b : ℕ) (tones : List ℕ) (n : ℕ) (codes rest : List ℕ) (e : codes ≡ over (codes_of (heard_characters b tones n)) rest) where
   pub collected_fit : n * b ≤ length codes
   collected_fit = rw e (omega (arith, over_fits (codes_of (heard_characters b tones n)) rest, heard_codes_length b tones n))
 
-  pub collected_front : take (n * b - 0) codes ≡ codes_of (heard_characters b tones n)
-  collected_front = rw (sub-zero, e) (take_over (codes_of (heard_characters b tones n)) rest (n * b) (heard_codes_length b tones n))
+  pub collected_front : take (n * b) codes ≡ codes_of (heard_characters b tones n)
+  collected_front = rw e (take_over (codes_of (heard_characters b tones n)) rest (n * b) (heard_codes_length b tones n))

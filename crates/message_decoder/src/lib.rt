@@ -1,7 +1,7 @@
 // A text of several blocks, decoded: document 01, "Messages".
 #![tactic(auto)]
 
-ghost use Rattle.std.specs.Prelude.{◌≡◌, true, ◌+◌, ◌*◌, ◌≤◌, ◌^◌, length, take};
+ghost use Rattle.std.specs.Prelude.{◌≡◌, true, ◌+◌, ◌*◌, ◌≤◌, ◌^◌, length, Ok};
 ghost use Rattle.lists.specs.Lists.{over};
 ghost use Rattle.refusal.specs.Checks.{is_mode, is_lead};
 ghost use Rattle.tone_range.specs.Range.{first_bad_tone};
@@ -14,7 +14,12 @@ use message_encoder::LONGEST;
 use refusal::{Reason, Refusal, checks};
 
 // Decodes blocks of 64 tones to their text, at the front of text. Every block is decided before anything is written.
-pub fn decode_message(mode: u32, least_lead: u32, tones: &[u16], text: &mut [u8]) -> Result<usize, Refusal>
+pub fn decode_message(
+    mode: u32,
+    least_lead: u32,
+    tones: &[u16],
+    text: &mut [u8],
+) -> Result<usize, Refusal>
     ensures answer { result ≡ decode_message longest mode least_lead tones.now (length text.old) }
     ensures output { text.new ≡ message_decoded_into longest mode least_lead tones.now text.old }
 {
@@ -38,81 +43,55 @@ fn decode_within(
     ensures answer { result ≡ decode_message limit mode least_lead tones.now (length text.old) }
     ensures output { text.new ≡ message_decoded_into limit mode least_lead tones.now text.old }
 {
-    if !checks::is_mode(mode) {
-        return Err(Refusal::at(Reason::Mode, 0));
-    }
-    if !checks::is_lead(least_lead) {
-        return Err(Refusal::at(Reason::LeastLead, 0));
-    }
-    let b = mode as usize;
+    let b = checks::check_mode(mode)?;
+    checks::check_lead(least_lead)?;
     if !is_whole(limit, b, tones.len()) {
         return Err(Refusal::at(Reason::ToneCount, 0));
     }
     let count = tones.len() / 64;
-    let total = count * b;
-    if text.len() < total {
+    if text.len() < count * b {
         return Err(Refusal::at(Reason::Room, 0));
     }
-    let range = tone_range::check(checks::tone_count(mode), tones);
-    if range.bad < tones.len() {
-        return Err(Refusal::at(Reason::Tone, range.bad));
+    if let Some(bad) = tone_range::check(checks::tone_count(mode), tones).bad {
+        return Err(Refusal::at(Reason::Tone, bad));
     }
-    let heard = collect(mode, least_lead, count, tones, codes);
-    match heard {
-        Ok(_) => deliver(limit, b, &codes[0..total], text),
-        Err(_) => heard,
-    }
+    let total = collect(mode, least_lead, count, tones, codes)?;
+    deliver(limit, b, &codes[..total], text)
 }
 
 // Whether a count of tones is that of whole blocks, no more than limit codes take.
 fn is_whole(limit: usize, mode: usize, count: usize) -> bool
-    requires { (limit ≤ longest) × (1 ≤ mode) × (mode ≤ 8) }
+    requires { (limit ≤ longest) × (1 ≤ mode) }
     ensures { result ≡ is_whole limit mode count }
 {
-    count % 64 == 0 && count <= 64 * ((limit + (mode - 1)) / mode)
+    count.is_multiple_of(64) && count <= 64 * limit.div_ceil(mode)
 }
 
 // Decides the blocks, one after the other. Their codes go over the front of codes, which a refusal leaves written in part.
-fn collect(mode: u32, least_lead: u32, count: usize, tones: &[u16], codes: &mut [u8]) -> Result<usize, Refusal>
+fn collect(
+    mode: u32,
+    least_lead: u32,
+    count: usize,
+    tones: &[u16],
+    codes: &mut [u8],
+) -> Result<usize, Refusal>
     requires settings { (is_mode mode ≡ true) × (is_lead least_lead ≡ true) }
     requires whole { length tones.now ≡ 64 * count }
     requires range { length tones.now ≤ first_bad_tone (2 ^ mode) tones.now }
     requires room { count * mode ≤ length codes.old }
-    ensures answer { result ≡ unless_unclear least_lead (heard_characters mode tones.now count) (Text (count * mode)) }
-    ensures output { result ≡ Text (count * mode) → codes.new ≡ over (codes_of (heard_characters mode tones.now count)) codes.old }
+    ensures answer { result ≡ unless_unclear least_lead (heard_characters mode tones.now count) (Ok (count * mode)) }
+    ensures output { result ≡ Ok (count * mode) → codes.new ≡ over (codes_of (heard_characters mode tones.now count)) codes.old }
 {
     let b = mode as usize;
-    let mut k: usize = 0;
-    let mut at: usize = 0;
-    while k < count {
-        let answer = checked_block::decode(
-            mode,
-            least_lead,
-            &tones[64 * k..64 * k + 64],
-            &mut codes[at..at + b],
-        );
-        match answer {
-            Ok(_) => {}
-            Err(unclear) => {
-                return Err(Refusal::unclear(at + unclear.place, unclear.lead));
-            }
+    for k in 0..count {
+        let at = k * b;
+        let block = &tones[64 * k..64 * k + 64];
+        let answer = checked_block::decode(mode, least_lead, block, &mut codes[at..at + b]);
+        if let Err(unclear) = answer {
+            return Err(Refusal::unclear(at + unclear.place, unclear.lead));
         }
-        at += b;
-        k += 1;
     }
-    Ok(at)
-}
-
-// The first n codes, over the front of text.
-fn put_text(n: usize, codes: &[u8], text: &mut [u8])
-    requires { (n ≤ length codes.now) × (n ≤ length text.old) }
-    ensures { text.new ≡ over (take n codes.now) text.old }
-{
-    let mut i: usize = 0;
-    while i < n {
-        text[i] = codes[i];
-        i += 1;
-    }
+    Ok(count * b)
 }
 
 // Judges the codes of accepted blocks and writes their text.
@@ -121,12 +100,7 @@ fn deliver(limit: usize, mode: usize, codes: &[u8], text: &mut [u8]) -> Result<u
     ensures answer { result ≡ delivery limit mode codes.now }
     ensures output { text.new ≡ heard_into (delivery limit mode codes.now) codes.now text.old }
 {
-    let answer = delivery::judge(limit, mode, codes);
-    match answer {
-        Ok(n) => {
-            put_text(n, codes, text);
-            answer
-        }
-        Err(_) => answer,
-    }
+    let n = delivery::judge(limit, mode, codes)?;
+    text[..n].copy_from_slice(&codes[..n]);
+    Ok(n)
 }

@@ -1,11 +1,13 @@
 -- The count of blocks that n codes take, and places of blocks.
-use mathlib.Core.Path.{◌≡◌, refl}
+use mathlib.Core.Path.{◌≡◌, refl, sym}
 use mathlib.Core.Bool.{Bool, true, false, ◌&&◌}
 use Prim.Native.Nat.{ℕ, suc, ◌+◌, ◌-◌, ◌*◌, ◌/◌, ◌%◌, ◌<◌, ◌≤◌}
 use native.Mathlib.Nat.{suc-mul, add-mul, mul-le-mul_right, div-le_self, div-mul-le_self, lt-div-mul-add, div-eq_of_lt-le, le-div_iff_mul-le}
 use native.Mathlib.Omega.{arith}
 use borrow.Author.Tests.{leb-true, eqb-true}
 use lib.Dec.{leb, eqb}
+use Rattle.std.specs.Int.{div_ceil}
+use Rattle.std.proofs.lemmas.Grind.{div_ceil_times}
 use Rattle.message_encoder.specs.Blocks.{block_count, is_whole}
 
 pub count_small : (b n : ℕ) → block_count b n ≤ n + (b - 1)
@@ -24,6 +26,10 @@ module _ (b n : ℕ) (low : 1 ≤ b) where
   pub count_unique : (k : ℕ) → n ≤ k * b → k * b < n + b → block_count b n ≡ k
   unfolding block_count
   count_unique k h l = div-eq_of_lt-le b (omega arith) (omega (arith, suc-mul k b))
+
+  -- the library's rounding up
+  pub count_by_ceil : div_ceil n b ≡ block_count b n
+  count_by_ceil = let bounds = div_ceil_times n b low in sym (count_unique (div_ceil n b) bounds.0 bounds.1)
 
   pub count_mono : (n' : ℕ) → n ≤ n' → block_count b n ≤ block_count b n'
   unfolding block_count

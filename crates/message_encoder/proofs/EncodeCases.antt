@@ -1,19 +1,26 @@
 -- `encode_message` and `message_encoded_into`: an equation for each answer, under the checks that lead to it, and back.
 use mathlib.Core.Path.{◌≡◌, sym, ◌∙◌, ap}
-use mathlib.Core.Bool.{true, false}
+use mathlib.Core.Bool.{true, false, not}
 use mathlib.Core.List.{List}
 use Prim.Native.Nat.{ℕ, ◌*◌, ◌<◌, ◌≤◌}
 use borrow.Author.Tests.{lt-ltb, le-ltb}
 use lib.ListN.{length}
 use Rattle.lists.specs.Lists.{over}
+use Rattle.lists.specs.Found.{found}
+use Rattle.lists.proofs.Found.{position_found}
 use Rattle.refusal.specs.Refused.{refused_at}
-use Rattle.refusal.specs.Checks.{is_mode}
+use Rattle.refusal.specs.Checks.{within, is_mode}
 use Rattle.refusal.specs.declared.Refusal.{Refusal}
 use Rattle.block_encoder.specs.Encoding.{sent_into}
 use Rattle.message_encoder.specs.Blocks.{block_count}
 use Rattle.message_encoder.specs.Encoding.{first_bad_text_code, sent_tones, encode_message, message_encoded_into}
-use Rattle.std.proofs.Common.{Ok, Err}
+use Rattle.std.proofs.Common.{Ok, Err, position}
 use Rattle.refusal.specs.declared.Reason.{Reason}
+
+-- the codes that are not of a text, as they are looked for
+pub code_found : (text : List ℕ) → position (λ code. not (within 1 127 code)) text ≡ found (length text) (first_bad_text_code text)
+unfolding first_bad_text_code
+code_found text = position_found (λ code. not (within 1 127 code)) text
 
 -- what the checks of mode and text leave
 pub record Sendable (limit b : ℕ) (text : List ℕ) : Type 0 where

@@ -1,9 +1,8 @@
 -- What the block encoder writes for block k of a text, and a loop's turn that puts it after the blocks before.
-use mathlib.Core.Path.{◌≡◌, ◌∙◌, ap}
+use mathlib.Core.Path.{◌≡◌, ◌∙◌}
 use mathlib.Core.Bool.{true}
 use mathlib.Core.List.{List, ◌++◌}
 use Prim.Native.Nat.{ℕ, ◌+◌, ◌-◌, ◌*◌, ◌≤◌}
-use native.Mathlib.Nat.{sub-zero}
 use native.Mathlib.Omega.{arith}
 use lib.ListN.{length, take, drop, replicate}
 use Rattle.lists.specs.Lists.{tab, num, over}
@@ -28,11 +27,9 @@ block_written b text k part e good n =
     ∙ over_whole (tones_of b (block_codes b text k)) part (omega (arith, tones_length b (block_codes b text k)))
 
 -- the codes handed on for block k
-pub codes_handed : (b : ℕ) (text : List ℕ) (k at : ℕ) → at ≡ k * b → take (b - 0) (over (tab (λ q. num text (at + q)) b) (replicate 8 0)) ≡ block_codes b text k
+pub codes_handed : (b : ℕ) (text : List ℕ) (k : ℕ) → take b (over (tab (λ q. num text (k * b + q)) b) (replicate 8 0)) ≡ block_codes b text k
 unfolding block_codes
-codes_handed b text k at e =
-    rw sub-zero
-    (take_over (tab (λ q. num text (at + q)) b) (replicate 8 0) b (tab_length (λ q. num text (at + q)) b) ∙ ap (λ (a : ℕ). tab (λ q. num text (a + q)) b) e)
+codes_handed b text k = take_over (tab (λ q. num text (k * b + q)) b) (replicate 8 0) b (tab_length (λ q. num text (k * b + q)) b)
 
 -- the tones with the next block put
 pub blocks_more : (b : ℕ) (text : List ℕ) (k : ℕ) (tones last rest : List ℕ) → tones ≡ over (sent_tones b text k) rest → last ≡ tones_of b (block_codes b text k)

@@ -1,9 +1,9 @@
 // A text of several blocks, encoded: document 01, "Messages".
 #![tactic(auto)]
 
-ghost use Rattle.std.specs.Prelude.{◌≡◌, true, ◌+◌, ◌*◌, ◌≤◌, length, replicate};
+ghost use Rattle.std.specs.Prelude.{◌≡◌, true, not, ◌+◌, ◌*◌, ◌≤◌, length, replicate, position};
 ghost use Rattle.lists.specs.Lists.{tab, num, over};
-ghost use Rattle.refusal.specs.Checks.{is_mode};
+ghost use Rattle.refusal.specs.Checks.{within, is_mode};
 ghost use Rattle.message_encoder.specs.Blocks.{longest, block_count};
 ghost use Rattle.message_encoder.specs.Encoding.{first_bad_text_code, sent_tones, encode_message, message_encoded_into};
 
@@ -29,18 +29,15 @@ fn encode_within(limit: usize, mode: u32, text: &[u8], tones: &mut [u16]) -> Res
     ensures answer { result ≡ encode_message limit mode text.now (length tones.old) }
     ensures output { tones.new ≡ message_encoded_into limit mode text.now tones.old }
 {
-    if !checks::is_mode(mode) {
-        return Err(Refusal::at(Reason::Mode, 0));
-    }
+    let b = checks::check_mode(mode)?;
     if limit < text.len() {
         return Err(Refusal::at(Reason::CodeCount, 0));
     }
-    let count = block_count(mode as usize, text.len());
+    let count = block_count(b, text.len());
     if tones.len() < 64 * count {
         return Err(Refusal::at(Reason::Room, 0));
     }
-    let bad = first_bad_code(text);
-    if bad < text.len() {
+    if let Some(bad) = first_bad_code(text) {
         return Err(Refusal::at(Reason::Code, bad));
     }
     put_blocks(mode, text, count, tones);
@@ -49,35 +46,24 @@ fn encode_within(limit: usize, mode: u32, text: &[u8], tones: &mut [u16]) -> Res
 
 // The blocks that a count of codes takes.
 fn block_count(mode: usize, codes: usize) -> usize
-    requires { (1 ≤ mode) × (mode ≤ 8) × (codes ≤ longest) }
+    requires { 1 ≤ mode }
     ensures { result ≡ block_count mode codes }
 {
-    (codes + (mode - 1)) / mode
+    codes.div_ceil(mode)
 }
 
-// The lowest place of a code that is not from 1 to 127, else the count of codes.
-fn first_bad_code(text: &[u8]) -> usize
-    ensures { result ≡ first_bad_text_code text.now }
+// The lowest place of a code that is not from 1 to 127, if there is one.
+fn first_bad_code(text: &[u8]) -> Option<usize>
+    ensures { result ≡ position (λ code. not (within 1 127 code)) text.now }
 {
-    let mut i: usize = 0;
-    while i < text.len() {
-        let code = text[i];
-        if code < 1 || 127 < code {
-            return i;
-        }
-        i += 1;
-    }
-    i
+    text.iter().position(|&code| !(1..=127).contains(&code))
 }
 
 // The code at place i; past the end it is the filling.
 fn code_at(text: &[u8], i: usize) -> u8
     ensures { result ≡ num text.now i }
 {
-    if i < text.len() {
-        return text[i];
-    }
-    FILLING
+    text.get(i).copied().unwrap_or(FILLING)
 }
 
 // The mode's codes from place at on; the rest of the eight are 0.
@@ -86,10 +72,8 @@ fn codes_from(mode: usize, text: &[u8], at: usize) -> [u8; 8]
     ensures { result ≡ over (tab (λ q. num text.now (at + q)) mode) (replicate 8 0) }
 {
     let mut codes = [0u8; 8];
-    let mut q: usize = 0;
-    while q < mode {
+    for q in 0..mode {
         codes[q] = code_at(text, at + q);
-        q += 1;
     }
     codes
 }
@@ -103,12 +87,9 @@ fn put_blocks(mode: u32, text: &[u8], count: usize, tones: &mut [u16])
     ensures { tones.new ≡ over (sent_tones mode text.now count) tones.old }
 {
     let b = mode as usize;
-    let mut k: usize = 0;
-    let mut at: usize = 0;
-    while k < count {
-        let codes = codes_from(b, text, at);
-        block_encoder::encode_block(mode, &codes[0..b], &mut tones[64 * k..64 * k + 64]);
-        at += b;
-        k += 1;
+    for k in 0..count {
+        let codes = codes_from(b, text, k * b);
+        // The codes were checked, so no block is refused.
+        let _ = block_encoder::encode_block(mode, &codes[..b], &mut tones[64 * k..64 * k + 64]);
     }
 }

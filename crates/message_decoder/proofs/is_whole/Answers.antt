@@ -1,18 +1,13 @@
-use native.Mathlib.Omega.{arith}
-use borrow.Author.Tests.{eq-eqb, ne_eqb}
+use mathlib.Core.Path.{◌≡◌, ◌∙◌}
+use Prim.Native.Nat.{◌%◌}
+use borrow.Author.Tests.{eq-eqb}
 use Rattle.message_encoder.specs.Blocks.{block_count}
-use Rattle.message_encoder.proofs.Counts.{count_small}
+use Rattle.message_encoder.proofs.Counts.{count_by_ceil}
 use Rattle.message_decoder.proofs.is_whole.Goals as goal
 
-pub overflow_mul-result : goal.overflow_mul-result
-unfolding block_count
-overflow_mul-result c =
+pub returns-then-is_multiple_of : goal.returns-then-is_multiple_of
+returns-then-is_multiple_of c =
     let a = c.args in
-    omega (arith, count_small a.mode a.limit)
-
-pub returns-then-count-eq0 : goal.returns-then-count-eq0
-unfolding block_count
-returns-then-count-eq0 c = rw (eq-eqb _ _ c.if-count-eq0.true)
-
-pub returns-else-count-eq0 : goal.returns-else-count-eq0
-returns-else-count-eq0 c = rw (ne_eqb _ _ c.if-count-eq0.false)
+    let blocks : c.div_ceil.result ≡ block_count a.mode a.limit = c.div_ceil.ensures ∙ count_by_ceil a.mode a.limit c.requires.1 in
+    let whole : a.count % 64 ≡ 0 = c.is_multiple_of.ensures.0 c.if-is_multiple_of.true in
+    rw (blocks, eq-eqb (a.count % 64) 0 whole)

@@ -1,7 +1,6 @@
-use mathlib.Core.Path.{refl}
-use Rattle.message_encoder.specs.Blocks.{block_count}
+use mathlib.Core.Path.{◌∙◌}
+use Rattle.message_encoder.proofs.Counts.{count_by_ceil}
 use Rattle.message_encoder.proofs.block_count.Goals as goal
 
 pub returns : goal.returns
-unfolding block_count
-returns c = refl
+returns c = c.div_ceil.ensures ∙ count_by_ceil c.args.mode c.args.codes c.requires
