@@ -27,7 +27,9 @@ use Rattle.message_encoder.proofs.Counts.{count_small, whole_blocks, whole_few}
 use Rattle.message_decoder.specs.Decoding.{message_characters, decode_message}
 use Rattle.message_decoder.proofs.HeardBlocks.{message_count}
 use Rattle.band.specs.Limits.{fault, answered}
-use Rattle.band.specs.Locating.{locate_fault, located_of}
+use lib.Ieee.Scale.{finite}
+use Rattle.band.specs.Locating.{owner_of, in_band, heard_as, settled, located_of}
+use Rattle.band.specs.declared.Located.{Located}
 use Rattle.band.specs.Frequencies.{frequency_of}
 use Rattle.search.specs.Starts.{longest_run, starts}
 use Rattle.finder.specs.Finding.{first_start, is_run, found_start, find_block}
@@ -36,7 +38,7 @@ use Rattle.energy.specs.Energies as energies
 use Rattle.energy.specs.declared.Energies.{Energies}
 use Rattle.block_encoder.specs.Checking.{check_codes}
 use Rattle.sender.specs.Queues.{Block, reserved, one_more, place_answer, after_check, hand_answer}
-use Rattle.told.proofs.Kept.{carried_by, refused_by}
+use Rattle.told.proofs.Kept.{carried_by, refused_by, located_carries}
 use Rattle.std.specs.Prelude.{Float}
 use Rattle.std.proofs.Common.{Option, Some, None, Ok, Err}
 use Rattle.refusal.specs.declared.Reason.{Reason}
@@ -185,9 +187,22 @@ pub frequency_small : (b w c n : ℕ) → refused_by (frequency_of b w c n) < 2 
 unfolding frequency_of
 frequency_small b w c n = answered_at_0 (fault b w c n) _
 
-pub located_small : (b w c : ℕ) (x : Float) → refused_by (located_of b w c x) < 2 ^ 32
-unfolding located_of
-located_small b w c x = answered_at_0 (locate_fault b w c x) _
+abbrev SmallLocated : Located → Type 0
+SmallLocated l = located_carries l < 2 ^ 32
+
+pub located_small : (b w c : ℕ) (x : Float) → located_carries (located_of b w c x) < 2 ^ 32
+unfolding located_of heard_as
+located_small b w c x = by (fault b w c 0)
+  where
+    measured : Located
+    measured = cond (not (finite x)) Located.NotFinite (cond (not (in_band w c x)) Located.OutsideBand (heard_as b w c x (owner_of b w c x)))
+
+    small : SmallLocated measured
+    small = either_way SmallLocated (not (finite x)) _ _ (λ _. omega arith) (λ _. either_way SmallLocated (not (in_band w c x)) _ _ (λ _. omega arith) (λ _. omega arith))
+
+    by : (f : Option Reason) → SmallLocated (settled f measured)
+    by None = small
+    by (Some reason) = omega arith
 
 -- ---- a block handed in
 
