@@ -16,7 +16,7 @@ use Rattle.told.proofs.Kept.{small_kept}
 use Rattle.olivia.specs.Told.{trial_told}
 use Rattle.olivia.specs.Tried.{GivesForC, RefusesForC, MeetsDemand3ForC, TriedForC}
 use Rattle.olivia.specs.declared.TrialAnswers.{TrialAnswers}
-use Rattle.refusal.specs.Refused.{Answered}
+use Rattle.refusal.specs.Refused.{Answered, number_of}
 
 module _ (b m : ℕ) (text out out' : List ℕ) (d : BlockDecoded) where
   pub gives_told : Gives b text d out out' → GivesForC b text (counted_told d.answer) out out'
@@ -27,6 +27,7 @@ module _ (b m : ℕ) (text out out' : List ℕ) (d : BlockDecoded) where
   }
 
   pub refuses_told : RefusesAsUnclear b m d out out' → RefusesForC b m d.characters (counted_told d.answer) out out'
+  unfolding number_of
   refuses_told u =
       let place : (counted_told d.answer).place ≡ u.place = ap (λ (a : Answered ℕ). (counted_told a).place) u.refused in
       let lead : (counted_told d.answer).lead ≡ lead_in d.characters u.place = ap (λ (a : Answered ℕ). (counted_told a).lead) u.refused in

@@ -1,5 +1,5 @@
 -- What C is told of the range check, of a frequency and of a trial (include/olivia.h).
-use Rattle.std.specs.Prelude.{cond, not, List, ℕ, ◌^◌, ltb, length, Ok, Err}
+use Rattle.std.specs.Prelude.{Float, cond, not, List, ℕ, ◌^◌, ltb, length, Ok, Err}
 use Rattle.lists.specs.Caps.{capped}
 use Rattle.refusal.specs.Checks.{is_mode}
 use Rattle.tone_range.specs.Range.{first_bad_tone, looked_at}

@@ -41,6 +41,10 @@ pub refused_kept : {A : Type 0} (a : Answered A) → refused_by a < 2 ^ 32 → r
 refused_kept (Ok x) h = refl
 refused_kept (Err r) h = ap Err (place_kept r h)
 
+pub refused_small : {A : Type 0} (a : Answered A) → ((r : Refusal) → a ≡ Err r → r.place < 2 ^ 32) → refused_by a < 2 ^ 32
+refused_small (Ok x) h = omega arith
+refused_small (Err r) h = h r refl
+
 pub block_kept : (d : BlockDecoded) → carried_by d.answer < 2 ^ 32 → block_capped d ≡ d
 block_kept d h = let e = counted_kept d.answer h in λ i. record { answer = e i; characters = d.characters }
 

@@ -15,6 +15,6 @@ returns c =
     let one = counted_kept ran.result.first.answer (rw ran.ensures.answers (block_heard_small _ _ _ _ _ _)) in
     let two = counted_kept ran.result.second.answer (rw ran.ensures.answers (block_heard_small _ _ _ _ _ _)) in
     let e0 = c.from.ensures ∙ ap counted_told sent in
-    let e1 = c.from.ensures ∙ ap counted_told one in
-    let e2 = c.decoded-2.ensures ∙ ap counted_told two in
+    let e1 = c.from-2.ensures ∙ ap counted_told one in
+    let e2 = c.from-3.ensures ∙ ap counted_told two in
     tried_told _ _ _ _ _ _ _ _ _ _ ran.result _ (λ i. record { encoded = e0 i; first = e1 i; second = e2 i; replaced = c.capped.ensures i; missing = c.capped-2.ensures i }) ran.ensures

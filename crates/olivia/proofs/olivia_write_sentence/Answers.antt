@@ -7,5 +7,5 @@ use Rattle.olivia.proofs.olivia_write_sentence.Goals as goal
 pub returns : goal.returns
 returns c =
     let called = c.write_sentence in
-    let kept = counted_kept called.result (rw called.ensures.answer (written_small _ _)) in
+    let kept = counted_kept called.result (rw called.ensures.answer (written_small _ _ _ _)) in
     record { answer = c.from.ensures ∙ ap counted_told (kept ∙ called.ensures.answer); output = called.ensures.output }
