@@ -8,9 +8,8 @@ use native.Mathlib.Omega.{arith}
 use borrow.Author.Tests.{ltb-true, ltb-false, not-false}
 use lib.Dec.{ltb, leb, eqb}
 use lib.ListN.{length, length-map}
-use Rattle.refusal.specs.Refused.{Answered, refused_at}
+use Rattle.refusal.specs.Refused.{Answered}
 use Rattle.refusal.specs.Checks.{is_lead_at, is_mode, is_lead}
-use Rattle.refusal.specs.declared.Refusal.{Refusal}
 use Rattle.refusal.proofs.Limits.{within_range, mode_range}
 use Rattle.decision.specs.declared.Character.{Character}
 use Rattle.tone_range.specs.Range.{first_bad_tone}
@@ -40,7 +39,7 @@ use Rattle.block_encoder.specs.Checking.{check_codes}
 use Rattle.sender.specs.Queues.{Block, reserved, one_more, place_answer, after_check, hand_answer}
 use Rattle.told.proofs.Kept.{carried_by, refused_by, located_carries}
 use Rattle.std.specs.Prelude.{Float}
-use Rattle.std.proofs.Common.{Option, Some, None, Ok, Err}
+use Rattle.std.proofs.Common.{Option, Some, None, Ok}
 use Rattle.refusal.specs.declared.Reason.{Reason}
 
 -- what holds of each of two answers holds of the one that a test chooses

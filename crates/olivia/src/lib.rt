@@ -24,7 +24,9 @@ ghost use Rattle.olivia.specs.WeightedTried.{WeightedTriedForC};
 
 use refusal::{Reason, Refusal, checks};
 use sender::{Sender, lent};
-use told::{Answer, BlockAnswer, EnergiesAnswer, FoundAnswer, LocatedAnswer, ReadAnswer, SentAnswer, };
+use told::{
+    Answer, BlockAnswer, EnergiesAnswer, FoundAnswer, LocatedAnswer, ReadAnswer, SentAnswer,
+};
 
 // number 0: no tone is bad, and place is 0. Else the refusal. looked is how many tones were looked at.
 #[repr(C)]
