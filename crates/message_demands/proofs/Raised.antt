@@ -9,6 +9,7 @@ use native.Mathlib.Omega.{arith}
 use lib.ListN.{length}
 use Rattle.lists.specs.Lists.{num}
 use Rattle.refusal.specs.Refused.{Answered, refused_at}
+use Rattle.refusal.specs.declared.Reason.{Reason}
 use Rattle.refusal.specs.Checks.{is_mode, is_lead}
 use Rattle.refusal.proofs.Limits.{within_true}
 use Rattle.decision.specs.declared.Character.{Character}
@@ -16,7 +17,7 @@ use Rattle.tone_range.specs.Range.{first_bad_tone}
 use Rattle.tone_range.proofs.Ranges.{tones_good, tone_good}
 use Rattle.block_decoder.specs.Decoding.{codes_of, lead_in, first_unclear, heard_into}
 use Rattle.block_decoder.proofs.Clarity.{text_refused, clear_told}
-use Rattle.lead_laws.proofs.Raises.{clear_below, same_number}
+use Rattle.lead_laws.proofs.Raises.{clear_below, same_reason}
 use Rattle.delivery.specs.Delivery.{delivery}
 use Rattle.message_encoder.specs.Blocks.{is_whole}
 use Rattle.message_decoder.specs.Decoding.{message_characters, decode_message, message_decoded_into}
@@ -31,10 +32,10 @@ use Rattle.std.proofs.Common.{Err}
 module _ (limit b : ℕ) (tones out : List ℕ) where
   -- one of them refuses, at every m
   record Unheard : Type 0 where
-    number : ℕ
+    reason : Reason
     place : ℕ
-    not_unclear : number ≢ 10
-    told : (m : ℕ) → is_lead m ≡ true → decode_message limit b m tones (length out) ≡ Err (refused_at number place)
+    not_unclear : reason ≢ Reason.Unclear
+    told : (m : ℕ) → is_lead m ≡ true → decode_message limit b m tones (length out) ≡ Err (refused_at reason place)
 
   -- all are passed
   abbrev Heard : Type 0
@@ -43,16 +44,16 @@ module _ (limit b : ℕ) (tones out : List ℕ) where
   checked : Unheard ⊎ Heard
   checked = by (is_mode b) refl (is_whole limit b (length tones)) refl (dec_lt (length out) (length tones / 64 * b)) (dec_lt (first_bad_tone (2 ^ b) tones) (length tones))
     where
-      unheard : (number place : ℕ) → number ≢ 10 → ((m : ℕ) → is_lead m ≡ true → decode_message limit b m tones (length out) ≡ Err (refused_at number place)) → Unheard ⊎ Heard
-      unheard number place n f = inl (record { number = number; place = place; not_unclear = n; told = f })
+      unheard : (reason : Reason) (place : ℕ) → reason ≢ Reason.Unclear → ((m : ℕ) → is_lead m ≡ true → decode_message limit b m tones (length out) ≡ Err (refused_at reason place)) → Unheard ⊎ Heard
+      unheard reason place n f = inl (record { reason = reason; place = place; not_unclear = n; told = f })
 
       by : (s : Bool) → is_mode b ≡ s → (w : Bool) → is_whole limit b (length tones) ≡ w → Dec (length out < length tones / 64 * b)
           → Dec (first_bad_tone (2 ^ b) tones < length tones) → Unheard ⊎ Heard
-      by false e w g r t = unheard 1 0 (λ z. omega arith) (λ m f. refuses_mode limit b m tones (length out) e)
-      by true e false g r t = unheard 7 0 (λ z. omega arith) (λ m f. refuses_count limit b m tones (length out) e f g)
-      by true e true g (yes r) t = unheard 9 0 (λ z. omega arith) (λ m f. refuses_room limit b m tones (length out) e f g r)
+      by false e w g r t = unheard Reason.Mode 0 (λ z. absurd cc) (λ m f. refuses_mode limit b m tones (length out) e)
+      by true e false g r t = unheard Reason.ToneCount 0 (λ z. absurd cc) (λ m f. refuses_count limit b m tones (length out) e f g)
+      by true e true g (yes r) t = unheard Reason.Room 0 (λ z. absurd cc) (λ m f. refuses_room limit b m tones (length out) e f g r)
       by true e true g (no r) (yes t) =
-          unheard 8 _ (λ z. omega arith) (λ m f. refuses_tone limit b m tones (length out) (record { mode = e; lead = f; whole = g; fits = omega arith }) t)
+          unheard Reason.Tone _ (λ z. absurd cc) (λ m f. refuses_tone limit b m tones (length out) (record { mode = e; lead = f; whole = g; fits = omega arith }) t)
       by true e true g (no r) (no t) = inr (λ m f. record {
         settings = record { mode = e; lead = f };
         whole = g;
@@ -74,7 +75,7 @@ module _ (limit b m m' : ℕ) (tones out own : List ℕ) where
         record {
           either = inl same;
           same_text = λ n t. same;
-          still_unclear = λ u. absurd (r.not_unclear (same_number (sym (r.told m f) ∙ u.refused)));
+          still_unclear = λ u. absurd (r.not_unclear (same_reason (sym (r.told m f) ∙ u.refused)));
         }
 
     raised_heard : m ≤ m' → b ≤ length own → Heard limit b tones out → Raised limit b m m' tones out own

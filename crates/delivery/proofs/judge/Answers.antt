@@ -27,7 +27,8 @@ pub returns-in-Some : goal.returns-in-Some
 returns-in-Some c =
     let codes = c.args.codes.now in
     let n = c.text_end-n.result in
-    let known = found_some n (first (is_zero codes) n) c.in-Some.zero (sym (zero_found codes n c.text_end-n.ensures) ∙ sym c.first_zero.ensures ∙ c.in-Some.is) in
+    let known =
+    found_some n (first (is_zero codes) n) c.in-Some.zero (sym (zero_found codes n c.text_end-n.ensures) ∙ sym c.first_zero.ensures ∙ c.in-Some.is) in
     ap Err (c.at.ensures ∙ ap (refused_at Reason.Zero) known.0) ∙ sym (refuses_zero _ _ codes n c.text_end-n.ensures known.1)
 
 -- no 0 stands before the end, once that is checked
@@ -43,12 +44,14 @@ overflow_sub-codes c = within_codes (goal.at.overflow_sub-codes c).After-text_en
 pub returns-then-mode-codes : goal.returns-then-mode-codes
 returns-then-mode-codes c =
     let a = c.args in
+    let none = no_zero_known (goal.at.returns-then-mode-codes c).In_default in
     ap Err c.at-then-mode-codes.ensures
-    ∙ sym (refuses_filling a.limit a.mode a.codes.now c.text_end-n.result c.text_end-n.ensures (no_zero_known (goal.at.returns-then-mode-codes c).In_default) (omega (arith, c.if-mode-codes.true)))
+    ∙ sym (refuses_filling a.limit a.mode a.codes.now c.text_end-n.result c.text_end-n.ensures none (omega (arith, c.if-mode-codes.true)))
 
 pub returns-then-limit-n : goal.returns-then-limit-n
 returns-then-limit-n c =
-    ap Err c.at-then-limit-n.ensures ∙ sym (refuses_long _ _ _ _ c.text_end-n.ensures (no_zero_known (goal.at.returns-then-limit-n c).In_default) c.if-mode-codes.false c.if-limit-n.true)
+    let none = no_zero_known (goal.at.returns-then-limit-n c).In_default in
+    ap Err c.at-then-limit-n.ensures ∙ sym (refuses_long _ _ _ _ c.text_end-n.ensures none c.if-mode-codes.false c.if-limit-n.true)
 
 pub returns : goal.returns
 returns c =

@@ -66,10 +66,12 @@ overflow_add-at-in-Err c =
     let l = c.loop-k in
     let at = goal.at.overflow_add-at-in-Err c in
     let refused = sym (decision at.After-decode-answer) ∙ c.in-Err.is in
+    let own = part (l.k * a.mode) a.mode l.codes in
+    let i = at.In-loop-k in
     omega (
       arith,
-      room at.In-loop-k,
-      refused_inside a.mode a.least_lead a.tones.now l.k (part (l.k * a.mode) a.mode l.codes) (set at.Start) (heard at.In-loop-k) (size at.In-loop-k) l.invariant.clear c.in-Err.unclear refused,
+      room i,
+      refused_inside a.mode a.least_lead a.tones.now l.k own (set at.Start) (heard i) (size i) l.invariant.clear c.in-Err.unclear refused,
     )
 
 pub returns-in-Err : goal.returns-in-Err
@@ -78,8 +80,10 @@ returns-in-Err c =
     let l = c.loop-k in
     let at = goal.at.returns-in-Err c in
     let refused = sym (decision at.After-decode-answer) ∙ c.in-Err.is in
+    let own = part (l.k * a.mode) a.mode l.codes in
+    let i = at.In-loop-k in
     let told =
-    block_refused a.mode a.least_lead a.tones.now l.k (part (l.k * a.mode) a.mode l.codes) (set at.Start) (heard at.In-loop-k) (size at.In-loop-k) l.invariant.clear a.count
+    block_refused a.mode a.least_lead a.tones.now l.k own (set at.Start) (heard i) (size i) l.invariant.clear a.count
     (Ok (a.count * a.mode)) c.loop-k-test.true c.in-Err.unclear refused in
     let same = ap Err c.unclear.ensures ∙ sym told in
     record { answer = same; output = λ e. absurd (text_refused (sym e)) }

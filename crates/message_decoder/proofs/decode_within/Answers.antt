@@ -55,7 +55,8 @@ pub returns-then-not-is_whole : goal.returns-then-not-is_whole
 returns-then-not-is_whole c =
     let at = goal.at.returns-then-not-is_whole c in
     let s = (set at.In_ok-check_lead).1 in
-    let both = refusal_told_lem _ _ _ _ _ c.at.ensures (refuses_count _ _ _ _ _ s.mode s.lead (sym (wholeness at.After-is_whole) ∙ c.if-not-is_whole.true)) in
+    let broken = sym (wholeness at.After-is_whole) ∙ c.if-not-is_whole.true in
+    let both = refusal_told_lem _ _ _ _ _ c.at.ensures (refuses_count _ _ _ _ _ s.mode s.lead broken) in
     record { answer = both.0; output = both.1 }
 
 pub overflow_mul-count : goal.overflow_mul-count
@@ -93,7 +94,8 @@ pub returns-in-Some : goal.returns-in-Some
 returns-in-Some c =
     let at = goal.at.returns-in-Some c in
     let bad = found_some _ _ _ (sym (range at.After-check) ∙ c.in-Some.is) in
-    let both = refusal_told_lem _ _ _ _ _ (c.at-in-Some.ensures ∙ ap (refused_at Reason.Tone) bad.0) (refuses_tone _ _ _ _ _ (passed at.Else-text-count) bad.1) in
+    let both = refusal_told_lem _ _ _ _ _ (c.at-in-Some.ensures ∙ ap (refused_at Reason.Tone) bad.0)
+    (refuses_tone _ _ _ _ _ (passed at.Else-text-count) bad.1) in
     record { answer = both.0; output = both.1 }
 
 hearable : (c : In_default) → let a = c.args in Hearable a.limit a.mode a.least_lead a.tones.now (length a.text.now)

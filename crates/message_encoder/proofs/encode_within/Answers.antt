@@ -25,7 +25,8 @@ mode_known c = (mode_passed _ _ (sym c.in_ok-b.ensures)).1
 
 pub returns-then-limit-text : goal.returns-then-limit-text
 returns-then-limit-text c =
-    let both = refusal_told_lem _ _ _ _ c.at.ensures (refuses_count _ _ _ _ (mode_known (goal.at.returns-then-limit-text c).In_ok-b) c.if-limit-text.true) in
+    let mode = mode_known (goal.at.returns-then-limit-text c).In_ok-b in
+    let both = refusal_told_lem _ _ _ _ c.at.ensures (refuses_count _ _ _ _ mode c.if-limit-text.true) in
     record { answer = both.0; output = both.1 }
 
 pub block_count-count-requires : goal.block_count-count-requires

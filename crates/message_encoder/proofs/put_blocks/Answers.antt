@@ -54,7 +54,8 @@ pub loop-k-preserved : goal.loop-k-preserved
 loop-k-preserved c =
     let a = c.args in
     let l = c.loop-k in
-    (search rules, blocks_more a.mode a.text.now l.k l.tones c.encode_block.new.tones a.tones.now l.invariant.1 (put (goal.at.loop-k-preserved c).After-encode_block))
+    let block = put (goal.at.loop-k-preserved c).After-encode_block in
+    (search rules, blocks_more a.mode a.text.now l.k l.tones c.encode_block.new.tones a.tones.now l.invariant.1 block)
 
 pub returns : goal.returns
 returns c =
