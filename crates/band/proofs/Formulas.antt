@@ -135,7 +135,8 @@ module _ (b w c : ℕ) (e : fault b w c 0 ≡ None) where
 module _ (b w c : ℕ) (e : fault b w c 0 ≡ None) where
   pub edge_fraction : HasValue (scaled (edge512 w c)) false (2 * c - w) 2
   unfolding edge512
-  edge_fraction = same_value (scaled (edge512 w c)) (edge512 w c) 512 (2 * c - w) 2 (lit< tt) (omega (arith, (limits b w c e).centre_low)) (scaled_value (edge512 w c))
+  edge_fraction =
+      same_value (scaled (edge512 w c)) (edge512 w c) 512 (2 * c - w) 2 (lit< tt) (omega (arith, (limits b w c e).centre_low)) (scaled_value (edge512 w c))
 
   pub spacing_fraction : HasValue (scaled (spacing512 b w)) false w (2 ^ b)
   spacing_fraction =

@@ -37,7 +37,8 @@ unfolding located_of locate_fault measured_fault
 covered b w c x = by (fault b w c 0) (finite x) (in_band w c x)
   where
     by : (p : Option Reason) (q r : Bool)
-        → is_ok (answered (option_or p (cond (not q) (Some Reason.NotFinite) (cond (not r) (Some Reason.OutsideBand) None))) (heard_as b w c x (owner_of b w c x)))
+        → is_ok (answered (option_or p (cond (not q) (Some Reason.NotFinite) (cond (not r) (Some Reason.OutsideBand) None)))
+        (heard_as b w c x (owner_of b w c x)))
         ≡ is_none p && q && r
     by (Some reason) q r = refl
     by None false r = refl
@@ -56,7 +57,8 @@ unfolding located_of locate_fault measured_fault heard_as
 known b w c x h e = by (fault b w c 0) refl (finite x) (in_band w c x) refl e
   where
     by : (p : Option Reason) → fault b w c 0 ≡ p → (q r : Bool) → in_band w c x ≡ r
-        → answered (option_or p (cond (not q) (Some Reason.NotFinite) (cond (not r) (Some Reason.OutsideBand) None))) (heard_as b w c x (owner_of b w c x)) ≡ Ok h
+        → answered (option_or p (cond (not q) (Some Reason.NotFinite) (cond (not r) (Some Reason.OutsideBand) None)))
+        (heard_as b w c x (owner_of b w c x)) ≡ Ok h
         → Known b w c x h
     by None right true true l e =
         let owner = owner_owns b w c x right l in
@@ -78,7 +80,8 @@ owned_heard : (b w c n : ℕ) (x : Float) → fault b w c n ≡ None → owns b 
 owned_heard b w c n x e h =
     let right = tone_0 b w c n e in
     let few = tone_range b w c n e in
-    sym (located_heard b w c x right (owned_finite b w c n x h) (owned_in_band b w c x right n few h)) ∙ ap (λ (k : ℕ). Ok (heard_as b w c x k)) (owner_is b w c x n few h)
+    sym (located_heard b w c x right (owned_finite b w c n x h) (owned_in_band b w c x right n few h))
+    ∙ ap (λ (k : ℕ). Ok (heard_as b w c x k)) (owner_is b w c x n few h)
 
 -- ---- a tone lies half a spacing from either end of its stretch
 
@@ -135,12 +138,14 @@ module _ (b w c : ℕ) (x : Float) (h : Heard) (t : T (fits binary64 x)) (e : lo
   from_half : le (neg (scaled (half512 b w))) h.hertz_off ≡ true
   from_half =
       let right = of.right in
-      rw tone_off (distance_law.from (tone_edge512 b w c h.tone) (half512 b w) x (half_pos b w c right) (half_small b w c right) t stretch.0 stretch.1)
+      rw tone_off (distance_law.from (tone_edge512 b w c h.tone) (half512 b w) x
+      (half_pos b w c right) (half_small b w c right) t stretch.0 stretch.1)
 
   below_half : lt h.hertz_off (scaled (half512 b w)) ≡ true
   below_half =
       let right = of.right in
-      rw tone_off (distance_law.below (tone_edge512 b w c h.tone) (half512 b w) x (half_pos b w c right) (half_small b w c right) t stretch.0 stretch.1)
+      rw tone_off (distance_law.below (tone_edge512 b w c h.tone) (half512 b w) x
+      (half_pos b w c right) (half_small b w c right) t stretch.0 stretch.1)
 
 pub tuning_law : Tuning
 tuning_law = record {

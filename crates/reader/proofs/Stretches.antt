@@ -2,7 +2,8 @@
 use mathlib.Core.Path.{◌≡◌, refl, sym, ◌∙◌, ap}
 use mathlib.Core.Bool.{Bool}
 use mathlib.Core.List.{List, [], ◌∷◌}
-use Prim.Native.Nat.{ℕ, ◌+◌, ◌<◌, ◌≤◌}
+use Prim.Native.Nat.{ℕ, ◌+◌, ◌<◌, ◌≤◌, max}
+use native.Mathlib.Decide.{dec_le}
 use native.Mathlib.Numerals.{add-one}
 use native.Mathlib.Omega.{arith}
 use borrow.Author.Tests.{eq-eqb, ne_eqb}
@@ -36,9 +37,11 @@ module _ (marks : Bool) (bytes : List ℕ) where
   pub reads_on : (line : Line) (from : ℕ) (tones : List ℕ) → ReadsOn marks bytes line from tones line from tones
   reads_on line from tones = record { the_line = refl; the_tones = refl; the_place = refl }
 
-  module _ {line₀ : Line} {from : ℕ} {tones₀ : List ℕ} (line : Line) (at : ℕ) (tones : List ℕ) (r : ReadsOn marks bytes line₀ from tones₀ line at tones) where
+  module _ {line₀ : Line} {from : ℕ} {tones₀ : List ℕ} (line : Line) (at : ℕ) (tones : List ℕ)
+      (r : ReadsOn marks bytes line₀ from tones₀ line at tones) where
     pub reads_byte : {next : Line} {kept : List ℕ} → at < length bytes → (get_or bytes at 0 ≡ line_feed → ⊥)
-        → next ≡ next_line marks line (get_or bytes at 0) → kept ≡ next_tones line (get_or bytes at 0) tones → ReadsOn marks bytes line₀ from tones₀ next (at + 1) kept
+        → next ≡ next_line marks line (get_or bytes at 0) → kept ≡ next_tones line (get_or bytes at 0) tones
+        → ReadsOn marks bytes line₀ from tones₀ next (at + 1) kept
     unfolding read_line read_tones
     reads_byte {next} {kept} h n e f =
         let first = byte_first bytes at h n in
@@ -51,12 +54,19 @@ module _ (marks : Bool) (bytes : List ℕ) where
         }
 
     -- nothing is left of the line
-    pub all_read : {last start : Line} → last ≡ line → line₀ ≡ start → line_from bytes at ≡ []
-        → (◌≡◌ {A = Stretch} (record { line = last; at = at }) (stretch marks start bytes from)) × (tones ≡ read_tones marks start (line_from bytes from) tones₀)
+    pub all_read : line_from bytes at ≡ []
+        → (◌≡◌ {A = Stretch} (record { line = line; at = at }) (stretch marks line₀ bytes from))
+        × (tones ≡ read_tones marks line₀ (line_from bytes from) tones₀)
     unfolding read_line read_tones stretch
-    all_read {last} {start} p q e =
-        let whole : last ≡ read_line marks start (line_from bytes from) = p ∙ sym (r.the_line ∙ ap (read_line marks line) e) ∙ ap (λ (l : Line). read_line marks l (line_from bytes from)) q in
-        let place : at ≡ from + length (line_from bytes from) = omega (arith, r.the_place, ap length e) in (
-          λ i. record { line = whole i; at = place i },
-          sym (r.the_tones ∙ ap (λ (x : List ℕ). read_tones marks line x tones) e) ∙ ap (λ (l : Line). read_tones marks l (line_from bytes from) tones₀) q,
-        )
+    all_read e =
+        let whole : line ≡ read_line marks line₀ (line_from bytes from) = sym (r.the_line ∙ ap (read_line marks line) e) in
+        let place : at ≡ from + length (line_from bytes from) = omega (arith, r.the_place, ap length e) in
+        (λ i. record { line = whole i; at = place i }, sym (r.the_tones ∙ ap (λ (x : List ℕ). read_tones marks line x tones) e))
+
+    -- where the bytes end, or where the reading began if that is further on
+    pub end_place : (from ≤ length bytes → at ≤ length bytes) → from ≤ at → length bytes ≤ at → max from (length bytes) ≡ at
+    end_place low high past = by (dec_le from (length bytes))
+      where
+        by : Dec (from ≤ length bytes) → max from (length bytes) ≡ at
+        by (yes l) = omega (arith, low l)
+        by (no k) = omega (arith, r.the_place, ap length (none_left bytes from (omega arith)))

@@ -57,12 +57,12 @@ fn put_heading(out: &mut [u8; OUTPUT]) -> usize
 }
 
 // The text after the last line, if the output has room for any text.
+#[tactic(auto, unfolding(crate::specs::Stages::ending_text))]
 pub fn finish(listing: Listing, out: &mut [u8]) -> usize
     ensures answer { result ≡ length (fitting (ending_text listing.stage listing.blocks) (length out.old)) }
     ensures output { out.new ≡ over (fitting (ending_text listing.stage listing.blocks) (length out.old)) out.old }
 {
-    let stage = listing.stage;
-    match stage {
+    match listing.stage {
         Stage::Settings => report::put_unreadable(1, out),
         Stage::Blocks => report::put_end(listing.blocks, out),
         Stage::Stopped => 0,
@@ -73,12 +73,7 @@ pub fn finish(listing: Listing, out: &mut [u8]) -> usize
 pub fn is_stopped(listing: Listing) -> bool
     ensures { result ≡ is_stopped listing.stage }
 {
-    let stage = listing.stage;
-    match stage {
-        Stage::Settings => false,
-        Stage::Blocks => false,
-        Stage::Stopped => true,
-    }
+    matches!(listing.stage, Stage::Stopped)
 }
 
 // Nothing more is read.
@@ -98,17 +93,16 @@ pub fn before_line(
 ) -> Progress
     ensures { result ≡ record { listing = before_line stage mode least_lead blocks; written = written } }
 {
-    let line = Line {
-        word: Word::Empty,
-        count: 0,
-    };
     Progress {
         listing: Listing {
             stage,
             mode,
             least_lead,
             blocks,
-            line,
+            line: Line {
+                word: Word::Empty,
+                count: 0,
+            },
         },
         written,
     }

@@ -29,7 +29,8 @@ is_finite c = sym (as_finite _) ∙ sym c.is_finite.ensures.value ∙ c.if-not-i
 pub band_of-band-requires : goal.band_of-band-requires
 band_of-band-requires c = right (goal.at.band_of-band-requires c).In_ok-check
 
-in_band_by : (c : After-holds) → let a = c.args in fault a.mode a.width a.centre 0 ≡ None → finite a.hertz ≡ true → c.holds.result ≡ in_band a.width a.centre a.hertz
+in_band_by : (c : After-holds) → let a = c.args in
+    fault a.mode a.width a.centre 0 ≡ None → finite a.hertz ≡ true → c.holds.result ≡ in_band a.width a.centre a.hertz
 in_band_by c e f =
     let a = c.args in
     c.holds.ensures
@@ -50,7 +51,8 @@ pub owner-tone-requires-clause-between : goal.owner-tone-requires-clause-between
 owner-tone-requires-clause-between c =
     let at = goal.at.owner-tone-requires-clause-between c in
     let settings = right at.In_ok-check in
-    rw c.band_of-band.ensures (from_first _ _ _ _ settings (sym (in_band_by at.After-holds settings (is_finite at.Else-not-is_finite)) ∙ c.if-not-holds.false))
+    let inside = sym (in_band_by at.After-holds settings (is_finite at.Else-not-is_finite)) ∙ c.if-not-holds.false in
+    rw c.band_of-band.ensures (from_first _ _ _ _ settings inside)
 
 pub returns : goal.returns
 unfolding heard_as

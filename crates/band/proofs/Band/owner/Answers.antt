@@ -18,7 +18,8 @@ among_all band x b count e h =
     let all : 0 + count ≡ 2 ^ b = omega arith in
     record { few = omega arith; edges = rw all h }
 
-module _ (band : Band) (x : Float) (b tone half : ℕ) (edge : Float) (is : edge ≡ tone_edge_in band (tone + half)) (a : Among band x b tone (half * 2)) where
+module _ (band : Band) (x : Float) (b tone half : ℕ) (edge : Float) (is : edge ≡ tone_edge_in band (tone + half))
+    (a : Among band x b tone (half * 2)) where
   tested : (t : Bool) → le edge x ≡ t → le (tone_edge_in band (tone + half)) x ≡ t
   tested t h = ap (λ (y : Float). le y x) (sym is) ∙ h
 
@@ -69,8 +70,10 @@ loop-preserved c =
     let among = subst (λ (n : ℕ). Among a.self a.hertz a.mode l.tone n) both l.invariant.1 in (
       omega (arith, l.invariant.0, twice),
       elim c.if-hertz-tone_edge.branch [
-        | then-hertz-tone_edge w ↦ upper_half a.self a.hertz a.mode l.tone half edge.result edge.ensures among c.if-hertz-tone_edge.tone w.tone-is w.if-hertz-tone_edge.true
-        | else-hertz-tone_edge w ↦ lower_half a.self a.hertz a.mode l.tone half edge.result edge.ensures among c.if-hertz-tone_edge.tone w.tone-is w.if-hertz-tone_edge.false
+        | then-hertz-tone_edge w ↦ upper_half a.self a.hertz a.mode l.tone half edge.result edge.ensures among
+            c.if-hertz-tone_edge.tone w.tone-is w.if-hertz-tone_edge.true
+        | else-hertz-tone_edge w ↦ lower_half a.self a.hertz a.mode l.tone half edge.result edge.ensures among
+            c.if-hertz-tone_edge.tone w.tone-is w.if-hertz-tone_edge.false
       ],
     )
 

@@ -1,6 +1,0 @@
-use mathlib.Core.Path.{ap}
-use Rattle.reader.specs.declared.Word.{Word}
-use Rattle.reader.proofs.line_of.Goals as goal
-
-pub returns : goal.returns
-returns c = ap (λ (w : Word). record { word = w; count = c.args.reading.count }) c.word_of.ensures
