@@ -37,7 +37,9 @@ fn take_settings(line: Line, tones: &[u16; TONES], out: &mut [u8]) -> Progress
     if !is_pair(line) {
         return stages::stopped(report::put_unreadable(1, out));
     }
-    check_settings(tones[0], tones[1], out)
+    let mode = u32::from(tones[0]);
+    let least_lead = u32::from(tones[1]);
+    check_settings(mode, least_lead, out)
 }
 
 // Of a line that ended: it has two words, and each was read.
@@ -47,17 +49,17 @@ fn is_pair(line: Line) -> bool
     reader::is_readable(line) && line.count == 2
 }
 
-fn check_settings(mode: u16, least_lead: u16, out: &mut [u8]) -> Progress
+fn check_settings(mode: u32, least_lead: u32, out: &mut [u8]) -> Progress
     ensures answer { result ≡ told_in (length out.old) (checked_said mode least_lead) }
     ensures output { out.new ≡ over (fitting (checked_said mode least_lead).text (length out.old)) out.old }
 {
-    if !checks::is_mode(u32::from(mode)) {
+    if !checks::is_mode(mode) {
         return refuse(Reason::Mode, out);
     }
-    if !checks::is_lead(u32::from(least_lead)) {
+    if !checks::is_lead(least_lead) {
         return refuse(Reason::LeastLead, out);
     }
-    stages::before_line(Stage::Blocks, u32::from(mode), u32::from(least_lead), 0, 0)
+    stages::before_line(Stage::Blocks, mode, least_lead, 0, 0)
 }
 
 fn refuse(reason: Reason, out: &mut [u8]) -> Progress
@@ -86,8 +88,7 @@ fn take_block(listing: Listing, line: Line, tones: &[u16; TONES], out: &mut [u8]
 }
 
 // What the first count tones are heard as, with room for any block's codes.
-fn decide(mode: u32, least_lead: u32, count: u8, tones: &[u16]) -> BlockDecoded
-    requires { 256 ≤ length tones.now }
+fn decide(mode: u32, least_lead: u32, count: u8, tones: &[u16; TONES]) -> BlockDecoded
     ensures { result ≡ decode_block mode least_lead (take count tones.now) 8 }
 {
     block_decoder::decide_block(mode, least_lead, &tones[..usize::from(count)], 8)
