@@ -12,6 +12,7 @@ use lib.Ieee.Bits.{is_true}
 use lib.Ieee.Exact.{HasValue}
 use lib.Ieee.Fits.{and_l, and_r}
 use Rattle.lists.specs.Lists.{num}
+use Rattle.refusal.specs.declared.Reason.{Reason}
 use Rattle.refusal.specs.Refused.{Answered, unclear_at}
 use Rattle.refusal.specs.Checks.{is_lead, IsSet}
 use Rattle.decision.specs.declared.Character.{Character}
@@ -72,21 +73,29 @@ accepted d v l t =
       its_lead = eqb→eq (lead_in d.characters 0) l (and_r second third rest);
     }
 
+abbrev is_reason_unclear : Reason → Bool
+is_reason_unclear Reason.Unclear = true
+is_reason_unclear other = false
+
+reason_unclear : (reason : Reason) → T (is_reason_unclear reason) → reason ≡ Reason.Unclear
+reason_unclear Reason.Unclear t = refl
+reason_unclear other t = absurd t
+
 abbrev is_unclear : Answered ℕ → ℕ → ℕ → Bool
 is_unclear (Ok n) q l = false
-is_unclear (Err r) q l = eqb r.number 10 && (eqb r.place q && eqb r.lead l)
+is_unclear (Err r) q l = is_reason_unclear r.reason && (eqb r.place q && eqb r.lead l)
 
 unclear : (d : Answered ℕ) (q l : ℕ) → T (is_unclear d q l) → d ≡ Err (unclear_at q l)
 unclear (Ok n) q l t = absurd t
 unclear (Err r) q l t =
-    let first = eqb r.number 10 in
+    let first = is_reason_unclear r.reason in
     let second = eqb r.place q in
     let third = eqb r.lead l in
     let rest = and_r first (second && third) t in
-    let its-number : r.number ≡ 10 = eqb→eq r.number 10 (and_l first (second && third) t) in
-    let its-place : r.place ≡ q = eqb→eq r.place q (and_l second third rest) in
+    let its_reason : r.reason ≡ Reason.Unclear = reason_unclear r.reason (and_l first (second && third) t) in
+    let its_place : r.place ≡ q = eqb→eq r.place q (and_l second third rest) in
     let its_lead : r.lead ≡ l = eqb→eq r.lead l (and_r second third rest) in
-    λ i. Err (record { number = its-number i; place = its-place i; lead = its_lead i })
+    λ i. Err (record { reason = its_reason i; place = its_place i; lead = its_lead i })
 
 abbrev is_value : Float → ℕ → ℕ → Bool
 is_value nan k c = false

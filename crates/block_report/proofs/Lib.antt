@@ -1,3 +1,2 @@
-pub mod TextBounds
 pub mod Elements
 pub mod BlockTexts

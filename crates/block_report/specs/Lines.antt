@@ -1,7 +1,8 @@
 -- Document 01, "The listing program", and order 5: the lines of a block, as bytes.
-use Rattle.std.specs.Prelude.{cond, List, [], ◌++◌, ℕ, zero, suc, min, eqb, ℤ, get_or, Ok, Err}
+use Rattle.std.specs.Prelude.{Bool, false, true, cond, List, [], ◌++◌, ℕ, zero, suc, min, ℤ, get_or, Ok, Err}
 use Rattle.text.specs.Ascii.{ascii, line_feed, space}
 use Rattle.text.specs.Decimal.{field, signed_field}
+use Rattle.refusal.specs.declared.Reason.{Reason}
 use Rattle.refusal.specs.declared.Refusal.{Refusal}
 use Rattle.decision.specs.Decision.{none}
 use Rattle.decision.specs.declared.Character.{Character}
@@ -41,9 +42,13 @@ characters_text block characters (suc n) = characters_text block characters n ++
 unfoldable pub unclear_text : ℕ → Refusal → Character → List ℕ
 unclear_text block r character = marked_text block r ++ words_text character
 
+abbrev pub is_unclear : Reason → Bool
+is_unclear Reason.Unclear = true
+is_unclear other = false
+
 -- the line of a block that was refused
 unfoldable pub refusal_text : ℕ → Refusal → List Character → List ℕ
-refusal_text block r characters = cond (eqb r.number 10) (unclear_text block r (get_or characters r.place none)) (refused_text r)
+refusal_text block r characters = cond (is_unclear r.reason) (unclear_text block r (get_or characters r.place none)) (refused_text r)
 
 -- the lines of an answer; a block has eight characters at most
 unfoldable pub answer_text : ℕ → Answered ℕ → List Character → List ℕ

@@ -2,7 +2,7 @@
 // written. Nothing is written to an output of less than report::ROOM bytes.
 #![tactic(auto)]
 
-ghost use Rattle.std.specs.Prelude.{◌≡◌, ◌≤◌, min, length, get_or};
+ghost use Rattle.std.specs.Prelude.{◌≡◌, ◌≤◌, length, get_or};
 ghost use Rattle.lists.specs.Lists.{over};
 ghost use Rattle.decision.specs.Decision.{none};
 ghost use Rattle.report.specs.Output.{fitting};
@@ -15,7 +15,8 @@ use report::ROOM;
 
 mod lines;
 
-// What is said of a block that was decoded: a line for each character, or the line of the refusal.
+// What is said of a block that was decoded: a line for each character, or the line of the refusal. No block has more than eight characters: a
+// larger count is taken as eight.
 pub fn put_block(block: u64, decoded: BlockDecoded, out: &mut [u8]) -> usize
     ensures answer { result ≡ length (fitting (block_text block decoded) (length out.old)) }
     ensures output { out.new ≡ over (fitting (block_text block decoded) (length out.old)) out.old }
@@ -23,27 +24,10 @@ pub fn put_block(block: u64, decoded: BlockDecoded, out: &mut [u8]) -> usize
     if out.len() < ROOM {
         return 0;
     }
-    let answer = decoded.answer;
-    match answer {
-        Ok(n) => {
-            let characters = decoded.characters;
-            lines::put_characters(block, at_most_eight(n), characters, out)
-        }
-        Err(refusal) => {
-            let characters = decoded.characters;
-            put_refusal(block, refusal, characters, out)
-        }
+    match decoded.answer {
+        Ok(n) => lines::put_characters(block, &decoded.characters[..n.min(8)], out),
+        Err(refusal) => put_refusal(block, refusal, decoded.characters, out),
     }
-}
-
-// No block has more characters: a larger count is taken as eight.
-fn at_most_eight(n: usize) -> usize
-    ensures { result ≡ min n 8 }
-{
-    if n < 8 {
-        return n;
-    }
-    8
 }
 
 fn put_refusal(block: u64, refusal: Refusal, characters: [Character; 8], out: &mut [u8]) -> usize
@@ -51,19 +35,16 @@ fn put_refusal(block: u64, refusal: Refusal, characters: [Character; 8], out: &m
     ensures answer { result ≡ length (refusal_text block refusal characters) }
     ensures output { out.new ≡ over (refusal_text block refusal characters) out.old }
 {
-    if refusal.number == Reason::Unclear {
-        let character = character_at(refusal.place, characters);
+    if refusal.reason == Reason::Unclear {
+        let character = character_at(refusal.place, &characters);
         return lines::put_unclear(block, refusal, character, out);
     }
     report::put_refused(refusal, out)
 }
 
 // No block has a character past the eighth: NONE stands there.
-fn character_at(place: usize, characters: [Character; 8]) -> Character
-    ensures { result ≡ get_or characters place none }
+fn character_at(place: usize, characters: &[Character]) -> Character
+    ensures { result ≡ get_or characters.now place none }
 {
-    if place < 8 {
-        return characters[place];
-    }
-    NONE
+    characters.get(place).copied().unwrap_or(NONE)
 }

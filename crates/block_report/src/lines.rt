@@ -15,6 +15,7 @@ fn put_pair(first: u64, second: u64, end: u8, out: &mut [u8]) -> usize
     requires { 42 ≤ length out.old }
     ensures answer { result ≡ length (field first space ++ field second end) }
     ensures output { out.new ≡ over (field first space ++ field second end) out.old }
+    ensures short { result ≤ 42 }
 {
     let at = text::put_field(first, SPACE, out);
     at + text::put_field(second, end, &mut out[at..])
@@ -25,10 +26,11 @@ fn put_decided(block: u64, q: usize, character: Character, out: &mut [u8]) -> us
     requires { 84 ≤ length out.old }
     ensures answer { result ≡ length (decided_text block q character) }
     ensures output { out.new ≡ over (decided_text block q character) out.old }
+    ensures short { result ≤ 64 }
 {
     let code = put_pair(block, q as u64, SPACE, out);
-    let lead = character.lead as u64;
-    code + put_pair(character.code as u64, lead, SPACE, &mut out[code..])
+    let lead = u64::from(character.lead);
+    code + put_pair(u64::from(character.code), lead, SPACE, &mut out[code..])
 }
 
 // A word and its correlation, and the byte that follows.
@@ -36,8 +38,9 @@ fn put_word(word: u32, correlation: i32, end: u8, out: &mut [u8]) -> usize
     requires { 23 ≤ length out.old }
     ensures answer { result ≡ length (word_text word correlation end) }
     ensures output { out.new ≡ over (word_text word correlation end) out.old }
+    ensures short { result ≤ 23 }
 {
-    let at = text::put_field(word as u64, SPACE, out);
+    let at = text::put_field(u64::from(word), SPACE, out);
     at + text::put_signed_field(correlation, end, &mut out[at..])
 }
 
@@ -46,6 +49,7 @@ fn put_words(character: Character, out: &mut [u8]) -> usize
     requires { 46 ≤ length out.old }
     ensures answer { result ≡ length (words_text character) }
     ensures output { out.new ≡ over (words_text character) out.old }
+    ensures short { result ≤ 46 }
 {
     let next = put_word(character.word, character.correlation, SPACE, out);
     next + put_word(
@@ -60,23 +64,21 @@ fn put_character(block: u64, q: usize, character: Character, out: &mut [u8]) -> 
     requires { 110 ≤ length out.old }
     ensures answer { result ≡ length (character_text block q character) }
     ensures output { out.new ≡ over (character_text block q character) out.old }
+    ensures short { result ≤ 110 }
 {
     let words = put_decided(block, q, character, out);
     words + put_words(character, &mut out[words..])
 }
 
-// A line for each of the first count characters.
-pub fn put_characters(block: u64, count: usize, characters: [Character; 8], out: &mut [u8]) -> usize
-    requires { (count ≤ 8) × (880 ≤ length out.old) }
-    ensures answer { result ≡ length (characters_text block characters count) }
-    ensures output { out.new ≡ over (characters_text block characters count) out.old }
+// A line for each character.
+pub fn put_characters(block: u64, characters: &[Character], out: &mut [u8]) -> usize
+    requires { (length characters.now ≤ 8) × (880 ≤ length out.old) }
+    ensures answer { result ≡ length (characters_text block characters.now (length characters.now)) }
+    ensures output { out.new ≡ over (characters_text block characters.now (length characters.now)) out.old }
 {
-    let mut at: usize = 0;
-    let mut q: usize = 0;
-    while q < count {
-        let character = characters[q];
+    let mut at = 0;
+    for (q, &character) in characters.iter().enumerate() {
         at += put_character(block, q, character, &mut out[at..]);
-        q += 1;
     }
     at
 }
@@ -86,9 +88,10 @@ fn put_marked(block: u64, refusal: Refusal, out: &mut [u8]) -> usize
     requires { 65 ≤ length out.old }
     ensures answer { result ≡ length (marked_text block refusal) }
     ensures output { out.new ≡ over (marked_text block refusal) out.old }
+    ensures short { result ≤ 65 }
 {
     let mark = put_pair(block, refusal.place as u64, SPACE, out);
-    mark + text::put_labelled(b"- ", refusal.lead as u64, SPACE, &mut out[mark..])
+    mark + text::put_labelled(b"- ", u64::from(refusal.lead), SPACE, &mut out[mark..])
 }
 
 pub fn put_unclear(block: u64, refusal: Refusal, character: Character, out: &mut [u8]) -> usize

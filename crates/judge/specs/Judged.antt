@@ -8,7 +8,7 @@ use Rattle.refusal.specs.Refused.{Answered, refused_at}
 use Rattle.block_decoder.specs.Decoding.{decode_block}
 use Rattle.block_decoder.specs.declared.BlockDecoded.{BlockDecoded}
 use Rattle.report.specs.Output.{refused_text, unreadable_text}
-use Rattle.block_report.specs.Lines.{block_text}
+use Rattle.block_report.specs.Lines.{is_unclear, block_text}
 use Rattle.stages.specs.declared.Stage.{Stage}
 use Rattle.stages.specs.declared.Stage.TheVariants.{Settings, Blocks, Stopped}
 use Rattle.stages.specs.declared.Listing.{Listing}
@@ -26,10 +26,10 @@ unfoldable pub settings_said : Line → List ℕ → Said
 settings_said line tones =
     cond (is_read line && line.count == 2) (checked_said (num tones 0) (num tones 1)) (stops (unreadable_text 1))
 
--- any refusal but 10 stops the listing
+-- any refusal but 10, unclear, stops the listing
 abbrev pub goes_on : Answered ℕ → Bool
 goes_on (Ok n) = true
-goes_on (Err r) = r.number == 10
+goes_on (Err r) = is_unclear r.reason
 
 unfoldable pub decoded_said : ℕ → ℕ → ℕ → BlockDecoded → Said
 decoded_said b m k d = cond (goes_on d.answer) (record { text = block_text k d; next = hearing b m ((k + 1) % 2 ^ 64) }) (stops (block_text k d))

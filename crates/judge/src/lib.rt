@@ -22,10 +22,8 @@ pub fn close(listing: Listing, tones: &mut [u16; TONES], out: &mut [u8]) -> Prog
     ensures kept { tones.new ≡ end_tones listing.line tones.old }
     ensures output { out.new ≡ over (fitting (closed listing tones.old).text (length out.old)) out.old }
 {
-    let begun = listing.line;
-    let line = reader::end_line(begun, tones);
-    let stage = listing.stage;
-    match stage {
+    let line = reader::end_line(listing.line, tones);
+    match listing.stage {
         Stage::Settings => take_settings(line, tones, out),
         Stage::Blocks => take_block(listing, line, tones, out),
         Stage::Stopped => stages::stopped(0),
@@ -39,7 +37,9 @@ fn take_settings(line: Line, tones: &[u16; TONES], out: &mut [u8]) -> Progress
     if !is_pair(line) {
         return stages::stopped(report::put_unreadable(1, out));
     }
-    check_settings(tones[0], tones[1], out)
+    let mode = u32::from(tones[0]);
+    let least_lead = u32::from(tones[1]);
+    check_settings(mode, least_lead, out)
 }
 
 // Of a line that ended: it has two words, and each was read.
@@ -49,24 +49,24 @@ fn is_pair(line: Line) -> bool
     reader::is_readable(line) && line.count == 2
 }
 
-fn check_settings(mode: u16, least_lead: u16, out: &mut [u8]) -> Progress
+fn check_settings(mode: u32, least_lead: u32, out: &mut [u8]) -> Progress
     ensures answer { result ≡ told_in (length out.old) (checked_said mode least_lead) }
     ensures output { out.new ≡ over (fitting (checked_said mode least_lead).text (length out.old)) out.old }
 {
-    if !checks::is_mode(mode as u32) {
+    if !checks::is_mode(mode) {
         return refuse(Reason::Mode, out);
     }
-    if !checks::is_lead(least_lead as u32) {
+    if !checks::is_lead(least_lead) {
         return refuse(Reason::LeastLead, out);
     }
-    stages::before_line(Stage::Blocks, mode as u32, least_lead as u32, 0, 0)
+    stages::before_line(Stage::Blocks, mode, least_lead, 0, 0)
 }
 
-fn refuse(number: u8, out: &mut [u8]) -> Progress
-    ensures answer { result ≡ told_in (length out.old) (stops (refused_text (refused_at number 0))) }
-    ensures output { out.new ≡ over (fitting (refused_text (refused_at number 0)) (length out.old)) out.old }
+fn refuse(reason: Reason, out: &mut [u8]) -> Progress
+    ensures answer { result ≡ told_in (length out.old) (stops (refused_text (refused_at reason 0))) }
+    ensures output { out.new ≡ over (fitting (refused_text (refused_at reason 0)) (length out.old)) out.old }
 {
-    stages::stopped(report::put_refused(Refusal::at(number, 0), out))
+    stages::stopped(report::put_refused(Refusal::at(reason, 0), out))
 }
 
 // A line is judged as a whole before its tones are.
@@ -88,12 +88,10 @@ fn take_block(listing: Listing, line: Line, tones: &[u16; TONES], out: &mut [u8]
 }
 
 // What the first count tones are heard as, with room for any block's codes.
-fn decide(mode: u32, least_lead: u32, count: u8, tones: &[u16]) -> BlockDecoded
-    requires { 256 ≤ length tones.now }
+fn decide(mode: u32, least_lead: u32, count: u8, tones: &[u16; TONES]) -> BlockDecoded
     ensures { result ≡ decode_block mode least_lead (take count tones.now) 8 }
 {
-    let end = count as usize;
-    block_decoder::decide_block(mode, least_lead, &tones[..end], 8)
+    block_decoder::decide_block(mode, least_lead, &tones[..usize::from(count)], 8)
 }
 
 fn take_answer(listing: Listing, decoded: BlockDecoded, out: &mut [u8]) -> Progress
@@ -101,8 +99,7 @@ fn take_answer(listing: Listing, decoded: BlockDecoded, out: &mut [u8]) -> Progr
     ensures output { out.new ≡ over (fitting (decoded_said listing.mode listing.least_lead listing.blocks decoded).text (length out.old)) out.old }
 {
     let written = block_report::put_block(listing.blocks, decoded, out);
-    let answer = decoded.answer;
-    if !goes_on(answer) {
+    if !goes_on(decoded.answer) {
         return stages::stopped(written);
     }
     stages::before_line(
@@ -120,6 +117,6 @@ fn goes_on(answer: Result<usize, Refusal>) -> bool
 {
     match answer {
         Ok(_) => true,
-        Err(refusal) => refusal.number == Reason::Unclear,
+        Err(refusal) => refusal.reason == Reason::Unclear,
     }
 }

@@ -1,7 +1,6 @@
+use Rattle.std.proofs.Common.{◌∙◌}
+use Rattle.block_report.proofs.BlockTexts.{same_unclear}
 use Rattle.judge.proofs.goes_on.Goals as goal
 
-pub returns-in-Ok : goal.returns-in-Ok
-returns-in-Ok c = rw c.in-Ok.is
-
 pub returns-in-Err : goal.returns-in-Err
-returns-in-Err c = rw c.in-Err.is
+returns-in-Err c = rw c.in-Err.is (c.eq.ensures ∙ same_unclear c.in-Err.refusal.reason)

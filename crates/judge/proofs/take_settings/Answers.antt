@@ -12,4 +12,7 @@ returns-then-not-is_pair c =
 
 pub returns : goal.returns
 returns c =
-    let all = tells_as c.args.out.now (says_pair _ _ (sym c.is_pair.ensures ∙ c.if-not-is_pair.false)) (c.check_settings.ensures.answer, c.check_settings.ensures.output) in record { answer = all.0; output = all.1 }
+    let set = c.check_settings.ensures in
+    let all = tells_as c.args.out.now (says_pair _ _ (sym c.is_pair.ensures ∙ c.if-not-is_pair.false))
+    (rw (c.from-mode.ensures, c.from-least_lead.ensures) at set.answer, rw (c.from-mode.ensures, c.from-least_lead.ensures) at set.output) in
+    record { answer = all.0; output = all.1 }
