@@ -36,8 +36,8 @@ slice_bounds-finish-end c =
     let room : w + 1024 ≤ length out = omega (arith, c.requires, short, length_front a.out.now last.new.out 1024 last.auto.out) in
     room
 
-pub overflow_add-written : goal.overflow_add-written
-overflow_add-written c =
+pub overflow_add-last : goal.overflow_add-last
+overflow_add-last c =
     let a = c.args in
     let last = c.last_line-last in
     let w = last.result.written in
