@@ -20,6 +20,7 @@ struct Within {
 }
 
 // The first count bytes of a piece, or all of them if it has no more; if count is 0, the end of the input.
+#[tactic(auto, unfolding(crate::specs::Steps::heard, crate::specs::Steps::heard_tones))]
 pub fn hear(
     listing: Listing,
     piece: &[u8; PIECE],
@@ -68,6 +69,7 @@ fn hear_lines(listing: Listing, bytes: &[u8], tones: &mut [u16; TONES], out: &mu
     }
 }
 
+#[tactic(auto, unfolding(crate::specs::Internal::read_from, crate::specs::Internal::line_read, crate::specs::Internal::tones_read, reader::specs::Reader::stretch))]
 fn read_from(listing: Listing, bytes: &[u8], from: usize, tones: &mut [u16; TONES]) -> Within
     ensures answer { result ≡ read_from listing bytes.now from }
     ensures kept { tones.new ≡ tones_read listing (line_from bytes.now from) tones.old }
@@ -94,6 +96,7 @@ fn finish(listing: Listing, tones: &mut [u16; TONES], out: &mut [u8]) -> Progres
 }
 
 // A last line with no line feed is a line too.
+#[tactic(auto, unfolding(crate::specs::Steps::last_line, report::specs::Output::fitting, reader::specs::Reader::end_tones))]
 fn last_line(listing: Listing, tones: &mut [u16; TONES], out: &mut [u8]) -> Progress
     requires { 1024 ≤ length out.old }
     ensures answer { result ≡ told (last_line listing tones.old) }
