@@ -47,7 +47,8 @@ pub overflow_add-written : goal.overflow_add-written
 overflow_add-written c =
     let l = c.loop-from in
     let put = (goal.at.overflow_add-written c).After-close-said in
-    omega (arith, c.requires, l.invariant.0, l.invariant.1.paid, said_within (line put) (size put) (rest put) (closes put).0 (closes put).1 c.close-said.auto.out)
+    let told = closes put in
+    omega (arith, c.requires, l.invariant.0, l.invariant.1.paid, said_within (line put) (size put) (rest put) told.0 told.1 c.close-said.auto.out)
 
 pub loop-from-smaller : goal.loop-from-smaller
 loop-from-smaller c = omega (arith, place_after _ _ _ c.read_from-at.ensures.answer)
@@ -57,9 +58,10 @@ loop-from-preserved c =
     let l = c.loop-from in
     let read = c.read_from-at.ensures in
     let put = (goal.at.loop-from-preserved c).After-close-said in
-    let told = closes put in (
+    let told = closes put in
+    let kept = c.close-said.ensures.kept in (
       omega arith,
-      hears_line _ _ _ _ _ _ _ _ _ l.invariant.1 read.answer read.kept (size put) (omega arith) (omega arith) told.0 c.close-said.ensures.kept told.1 c.close-said.auto.out,
+      hears_line _ _ _ _ _ _ _ _ _ l.invariant.1 read.answer read.kept (size put) (omega arith) (omega arith) told.0 kept told.1 c.close-said.auto.out,
     )
 
 pub returns : goal.returns
