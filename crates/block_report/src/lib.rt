@@ -17,6 +17,7 @@ mod lines;
 
 // What is said of a block that was decoded: a line for each character, or the line of the refusal. No block has more than eight characters: a
 // larger count is taken as eight.
+#[tactic(auto, unfolding(crate::specs::Lines::block_text, crate::specs::Lines::answer_text, report::specs::Output::fitting))]
 pub fn put_block(block: u64, decoded: BlockDecoded, out: &mut [u8]) -> usize
     ensures answer { result ≡ length (fitting (block_text block decoded) (length out.old)) }
     ensures output { out.new ≡ over (fitting (block_text block decoded) (length out.old)) out.old }
@@ -30,6 +31,7 @@ pub fn put_block(block: u64, decoded: BlockDecoded, out: &mut [u8]) -> usize
     }
 }
 
+#[tactic(auto, unfolding(crate::specs::Lines::refusal_text, report::specs::Output::fitting))]
 fn put_refusal(block: u64, refusal: Refusal, characters: [Character; 8], out: &mut [u8]) -> usize
     requires { 1024 ≤ length out.old }
     ensures answer { result ≡ length (refusal_text block refusal characters) }

@@ -17,6 +17,7 @@ use refusal::{Reason, Refusal, checks};
 use stages::{Listing, Progress, Stage};
 
 // The end of a line.
+#[tactic(auto, unfolding(crate::specs::Judged::closed, crate::specs::Judged::judged))]
 pub fn close(listing: Listing, tones: &mut [u16; TONES], out: &mut [u8]) -> Progress
     ensures answer { result ≡ told_in (length out.old) (closed listing tones.old) }
     ensures kept { tones.new ≡ end_tones listing.line tones.old }
@@ -30,6 +31,7 @@ pub fn close(listing: Listing, tones: &mut [u16; TONES], out: &mut [u8]) -> Prog
     }
 }
 
+#[tactic(auto, unfolding(crate::specs::Judged::settings_said))]
 fn take_settings(line: Line, tones: &[u16; TONES], out: &mut [u8]) -> Progress
     ensures answer { result ≡ told_in (length out.old) (settings_said line tones.now) }
     ensures output { out.new ≡ over (fitting (settings_said line tones.now).text (length out.old)) out.old }
@@ -49,6 +51,7 @@ fn is_pair(line: Line) -> bool
     reader::is_readable(line) && line.count == 2
 }
 
+#[tactic(auto, unfolding(crate::specs::Judged::checked_said, report::specs::Output::fitting))]
 fn check_settings(mode: u32, least_lead: u32, out: &mut [u8]) -> Progress
     ensures answer { result ≡ told_in (length out.old) (checked_said mode least_lead) }
     ensures output { out.new ≡ over (fitting (checked_said mode least_lead).text (length out.old)) out.old }
@@ -70,6 +73,7 @@ fn refuse(reason: Reason, out: &mut [u8]) -> Progress
 }
 
 // A line is judged as a whole before its tones are.
+#[tactic(auto, unfolding(crate::specs::Judged::block_said))]
 fn take_block(listing: Listing, line: Line, tones: &[u16; TONES], out: &mut [u8]) -> Progress
     ensures answer { result ≡ told_in (length out.old) (block_said listing.mode listing.least_lead listing.blocks line tones.now) }
     ensures output { out.new ≡ over (fitting (block_said listing.mode listing.least_lead listing.blocks line tones.now).text (length out.old)) out.old }
@@ -94,6 +98,7 @@ fn decide(mode: u32, least_lead: u32, count: u8, tones: &[u16; TONES]) -> BlockD
     block_decoder::decide_block(mode, least_lead, &tones[..usize::from(count)], 8)
 }
 
+#[tactic(auto, unfolding(crate::specs::Judged::decoded_said))]
 fn take_answer(listing: Listing, decoded: BlockDecoded, out: &mut [u8]) -> Progress
     ensures answer { result ≡ told_in (length out.old) (decoded_said listing.mode listing.least_lead listing.blocks decoded) }
     ensures output { out.new ≡ over (fitting (decoded_said listing.mode listing.least_lead listing.blocks decoded).text (length out.old)) out.old }

@@ -7,27 +7,16 @@ use native.Mathlib.Omega.{arith}
 use lib.Dec.{eqb}
 use lib.ListN.{length, drop}
 use Rattle.text.specs.Ascii.{line_feed}
-use Rattle.reader.specs.declared.Stretch.{Stretch}
-use Rattle.reader.specs.Reader.{next_tones, read_line, read_tones, before_feed, stretch, end_tones}
+use Rattle.reader.specs.Reader.{next_tones, read_line, read_tones, before_feed, end_tones}
 use Rattle.stages.specs.declared.Listing.{Listing}
 use Rattle.stages.specs.Stages.{Said}
 use Rattle.judge.specs.Judged.{closed}
-use Rattle.listing.specs.Steps.{takes_marks, within_line, stepped, stepped_tones, and_then, piece_said, piece_tones}
-use Rattle.listing.specs.Internal.{line_read, tones_read, read_from}
-use Rattle.listing.specs.declared.Within.{Within}
+use Rattle.listing.specs.Steps.{within_line, stepped, stepped_tones, and_then, piece_said, piece_tones}
+use Rattle.listing.specs.Internal.{line_read, tones_read}
 
 pub then_then : (a b : List ℕ) (said : Said) → and_then a (and_then b said) ≡ and_then (a ++ b) said
 unfolding and_then
 then_then a b said = λ i. record { text = sym (append_assoc a b said.text) i; next = said.next }
-
--- a line as far as it was read
-pub read_as : (s : Listing) (bytes : List ℕ) (from : ℕ) {x : Stretch} → x ≡ stretch (takes_marks s.stage) s.line bytes from
-    → ◌≡◌ {A = Within}
-    (record { listing = record { stage = s.stage; mode = s.mode; least_lead = s.least_lead; blocks = s.blocks; line = x.line }; at = x.at })
-    (read_from s bytes from)
-unfolding read_from line_read stretch
-read_as s bytes from e =
-    λ i. record { listing = record { stage = s.stage; mode = s.mode; least_lead = s.least_lead; blocks = s.blocks; line = (e i).line }; at = (e i).at }
 
 -- what a line makes of a listing
 module _ (s : Listing) (tones line : List ℕ) where

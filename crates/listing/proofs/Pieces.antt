@@ -1,6 +1,6 @@
 -- A piece as it is heard line by line: before each turn, what was written and what the bytes left say are what the piece says.
 use mathlib.Core.Path.{◌≡◌, refl, sym, ◌∙◌, ap, ap₂}
-use mathlib.Core.List.{List, [], ◌∷◌, ◌++◌, append-nil}
+use mathlib.Core.List.{List, [], ◌++◌, append-nil}
 use Prim.Native.Nat.{ℕ, suc, ◌+◌, ◌*◌, ◌<◌, ◌≤◌}
 use native.Mathlib.Omega.{arith}
 use lib.ListN.{length, take, drop, length-drop, drop_of_length-le}
@@ -12,7 +12,7 @@ use Rattle.stages.specs.declared.Listing.{Listing}
 use Rattle.stages.specs.declared.Progress.{Progress}
 use Rattle.stages.specs.Stages.{Said, told}
 use Rattle.judge.specs.Judged.{closed}
-use Rattle.listing.specs.Steps.{and_then, piece_said, piece_tones, ended, heard, heard_tones}
+use Rattle.listing.specs.Steps.{and_then, piece_said, piece_tones}
 use Rattle.listing.specs.Internal.{tones_read, read_from}
 use Rattle.listing.specs.declared.Within.{Within}
 use Rattle.listing.proofs.Lines.{then_then, line_said, line_tones, line_said_lem, rest_said}
@@ -110,15 +110,3 @@ module _ (bytes tones₀ out₀ : List ℕ) (s₀ : Listing) (tones out : List �
             due_read s (line_from bytes from),
           );
         }
-
--- ---- a piece, or the end of the input
-
-module _ (s : Listing) (tones : List ℕ) where
-  pub nothing_heard : (heard s tones [] ≡ ended s tones) × (heard_tones s tones [] ≡ end_tones s.line tones)
-  unfolding heard heard_tones
-  nothing_heard = (refl, refl)
-
-  pub piece_heard : (bytes : List ℕ) → 0 < length bytes → (heard s tones bytes ≡ piece_said s tones bytes) × (heard_tones s tones bytes ≡ piece_tones s tones bytes)
-  unfolding heard heard_tones
-  piece_heard [] h = absurd (omega arith)
-  piece_heard (c ∷ cs) h = (refl, refl)

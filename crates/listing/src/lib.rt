@@ -8,7 +8,7 @@ ghost use Rattle.stages.specs.Stages.{told};
 ghost use Rattle.listing.specs.Steps.{takes_marks, piece_said, piece_tones, last_line, ended, heard, heard_tones};
 ghost use Rattle.listing.specs.Internal.{tones_read, read_from};
 
-use reader::TONES;
+use reader::{Stretch, TONES};
 use report::ROOM;
 use stages::{Listing, OUTPUT, PIECE, Progress, Stage};
 
@@ -20,6 +20,7 @@ struct Within {
 }
 
 // The first count bytes of a piece, or all of them if it has no more; if count is 0, the end of the input.
+#[tactic(auto, unfolding(crate::specs::Steps::heard, crate::specs::Steps::heard_tones))]
 pub fn hear(
     listing: Listing,
     piece: &[u8; PIECE],
@@ -34,25 +35,7 @@ pub fn hear(
     if count == 0 {
         return finish(listing, tones, out);
     }
-    if PIECE < count {
-        return hear_bytes(listing, piece, PIECE, tones, out);
-    }
-    hear_bytes(listing, piece, count, tones, out)
-}
-
-fn hear_bytes(
-    listing: Listing,
-    piece: &[u8],
-    count: usize,
-    tones: &mut [u16; TONES],
-    out: &mut [u8],
-) -> Progress
-    requires { (count ≤ 4096) × (count ≤ length piece.now) × (40960 ≤ length out.old) }
-    ensures answer { result ≡ told (piece_said listing tones.old (take count piece.now)) }
-    ensures kept { tones.new ≡ piece_tones listing tones.old (take count piece.now) }
-    ensures output { out.new ≡ over (piece_said listing tones.old (take count piece.now)).text out.old }
-{
-    hear_lines(listing, &piece[..count], tones, out)
+    hear_lines(listing, &piece[..count.min(PIECE)], tones, out)
 }
 
 // Line after line, the last one as far as it stands here.
@@ -63,20 +46,19 @@ fn hear_lines(listing: Listing, bytes: &[u8], tones: &mut [u16; TONES], out: &mu
     ensures output { out.new ≡ over (piece_said listing tones.old bytes.now).text out.old }
 {
     let mut state = listing;
-    let mut written: usize = 0;
-    let mut from: usize = 0;
+    let mut written = 0;
+    let mut from = 0;
+    // A turn goes on behind what a line took, so that there is no index to count; to split at the line feeds would read each byte twice.
     while from < bytes.len() {
-        let within = read_from(state, bytes, from, tones);
-        state = within.listing;
-        let at = within.at;
+        let Within { listing: read, at } = read_from(state, bytes, from, tones);
         if bytes.len() <= at {
             return Progress {
-                listing: state,
+                listing: read,
                 written,
             };
         }
         let end = written + ROOM;
-        let said = judge::close(state, tones, &mut out[written..end]);
+        let said = judge::close(read, tones, &mut out[written..end]);
         state = said.listing;
         written += said.written;
         from = at + 1;
@@ -87,23 +69,16 @@ fn hear_lines(listing: Listing, bytes: &[u8], tones: &mut [u16; TONES], out: &mu
     }
 }
 
+#[tactic(auto, unfolding(crate::specs::Internal::read_from, crate::specs::Internal::line_read, crate::specs::Internal::tones_read, reader::specs::Reader::stretch))]
 fn read_from(listing: Listing, bytes: &[u8], from: usize, tones: &mut [u16; TONES]) -> Within
     ensures answer { result ≡ read_from listing bytes.now from }
     ensures kept { tones.new ≡ tones_read listing (line_from bytes.now from) tones.old }
 {
-    let stage = listing.stage;
-    let line = listing.line;
-    let stretch = reader::read_line(line, takes_marks(stage), bytes, from, tones);
-    let read = stretch.line;
+    let marks = takes_marks(listing.stage);
+    let Stretch { line, at } = reader::read_line(listing.line, marks, bytes, from, tones);
     Within {
-        listing: Listing {
-            stage,
-            mode: listing.mode,
-            least_lead: listing.least_lead,
-            blocks: listing.blocks,
-            line: read,
-        },
-        at: stretch.at,
+        listing: Listing { line, ..listing },
+        at,
     }
 }
 
@@ -115,22 +90,20 @@ fn finish(listing: Listing, tones: &mut [u16; TONES], out: &mut [u8]) -> Progres
     ensures output { out.new ≡ over (ended listing tones.old).text out.old }
 {
     let last = last_line(listing, tones, &mut out[..ROOM]);
-    let after = last.listing;
-    let written = last.written;
-    let end = written + ROOM;
-    let ending = stages::finish(after, &mut out[written..end]);
-    stages::stopped(written + ending)
+    let end = last.written + ROOM;
+    let ending = stages::finish(last.listing, &mut out[last.written..end]);
+    stages::stopped(last.written + ending)
 }
 
 // A last line with no line feed is a line too.
+#[tactic(auto, unfolding(crate::specs::Steps::last_line, report::specs::Output::fitting, reader::specs::Reader::end_tones))]
 fn last_line(listing: Listing, tones: &mut [u16; TONES], out: &mut [u8]) -> Progress
     requires { 1024 ≤ length out.old }
     ensures answer { result ≡ told (last_line listing tones.old) }
     ensures kept { tones.new ≡ end_tones listing.line tones.old }
     ensures output { out.new ≡ over (last_line listing tones.old).text out.old }
 {
-    let line = listing.line;
-    if reader::is_blank(line) {
+    if reader::is_blank(listing.line) {
         return Progress {
             listing,
             written: 0,
@@ -143,9 +116,5 @@ fn last_line(listing: Listing, tones: &mut [u16; TONES], out: &mut [u8]) -> Prog
 fn takes_marks(stage: Stage) -> bool
     ensures { result ≡ takes_marks stage }
 {
-    match stage {
-        Stage::Settings => false,
-        Stage::Blocks => true,
-        Stage::Stopped => true,
-    }
+    !matches!(stage, Stage::Settings)
 }

@@ -2,7 +2,7 @@ use Rattle.std.proofs.Common.{◌≡◌, length, sym, ap, ◌∙◌}
 use native.Mathlib.Omega.{arith}
 use borrow.Author.Rules.{rules}
 use Rattle.block_report.specs.Lines.{characters_text}
-use Rattle.block_report.proofs.BlockTexts.{text_accepted, text_refusal, text_taken}
+use Rattle.block_report.proofs.BlockTexts.{text_accepted, text_taken}
 use Rattle.text.proofs.Puts.{put_as}
 use Rattle.report.proofs.Puts.{put_short, put_fitting}
 use Rattle.block_report.proofs.put_block.Goals as goal
@@ -17,10 +17,4 @@ returns-in-Ok c =
     let size : length characters ≡ 8 = search rules in
     let taken = ap (characters_text _ _) (sym c.min.ensures) ∙ sym (text_taken c.args.block characters c.min.result (omega (arith, size, c.min.ensures))) in
     let all = put_fitting _ _ c.if-out-lt-ROOM.false (put_as _ (text_accepted _ _ _ c.in-Ok.is ∙ taken) (put.answer, put.output)) in
-    record { answer = all.0; output = all.1 }
-
-pub returns-in-Err : goal.returns-in-Err
-returns-in-Err c =
-    let put = c.put_refusal.ensures in
-    let all = put_fitting _ _ c.if-out-lt-ROOM.false (put_as _ (text_refusal _ _ _ c.in-Err.is) (put.answer, put.output)) in
     record { answer = all.0; output = all.1 }

@@ -18,7 +18,11 @@ returns c =
     let lead = c.from-lead.result in
     let all = put_after _ _ (first.answer, first.output) _ (second.answer, second.output) in
     let short : c.put_pair-code.result + c.put_pair.result ≤ 64 = omega (
-      arith, first.short, second.answer, length-append (field code space) (field lead space),
-      field_length_32 code space (omega (arith, c.from.ensures)), field_length_32 lead space (omega (arith, c.from-lead.ensures)),
+      arith,
+      first.short,
+      second.answer,
+      length-append (field code space) (field lead space),
+      field_length_32 code space (omega (arith, c.from.ensures)),
+      field_length_32 lead space (omega (arith, c.from-lead.ensures)),
     ) in
     rw (← c.from.ensures, ← c.from-lead.ensures) (record { answer = all.0; output = all.1; short = short })
