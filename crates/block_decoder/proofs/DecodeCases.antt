@@ -10,15 +10,13 @@ use lib.ListN.{length, take, replicate}
 use Rattle.lists.specs.Lists.{tab, over}
 use Rattle.refusal.specs.Checks.{is_lead_at, is_mode}
 use Rattle.refusal.specs.declared.Refusal.{Refusal}
-use Rattle.refusal.proofs.Agreement.{passes, Agrees, agrees_refused, agrees_done, agrees_unless}
+use Rattle.refusal.proofs.Agreement.{Agrees, agrees_refused, agrees_done, agrees_unless}
 use Rattle.decision.specs.Decision.{none}
 use Rattle.decision.specs.declared.Character.{Character}
 use Rattle.tone_range.specs.Range.{first_bad_tone}
-use Rattle.weight_range.specs.Range.{HasWeights, first_bad_weight}
-use Rattle.weight_range.proofs.Ranges.{in_range_weights}
+use Rattle.weight_range.specs.Range.{first_bad_weight}
 use Rattle.block_decoder.specs.Decoding.{weighted_of, codes_of, first_unclear, unless_unclear, padded, refused, heard_block, heard_into, heard_block_into}
-use Rattle.block_decoder.specs.Internal.{heard_of, code_in, listened, judgement_in}
-use Rattle.block_decoder.specs.declared.Heard.{Heard}
+use Rattle.block_decoder.specs.Internal.{code_in, listened, judgement_in}
 use Rattle.block_decoder.specs.declared.BlockDecoded.{BlockDecoded}
 use Rattle.block_decoder.proofs.Characters.{codes_padded, judgement_padded}
 use Rattle.block_decoder.proofs.Clarity.{text_told}
@@ -87,7 +85,7 @@ abbrev told : Refusal → BlockDecoded
 told r = record { answer = Err r; characters = replicate 8 none }
 
 module _ (N b m : ℕ) (tones weights : List ℕ) (room : ℕ) where
-  agrees : Agrees told (heard_of tones weights) (judged b m (weighted_of b tones weights)) (listened N b m tones weights room) (heard_block N b m tones weights room)
+  agrees : Agrees told (padded (weighted_of b tones weights)) (judged b m (weighted_of b tones weights)) (listened N b m tones weights room) (heard_block N b m tones weights room)
   unfolding listened heard_block refused
   agrees =
       agrees_unless (not (is_mode b)) (agrees_refused (refused_at Reason.Mode 0))
@@ -102,7 +100,7 @@ module _ (N b m : ℕ) (tones weights : List ℕ) (room : ℕ) where
   module _ (p : Passed N b m (length tones) (length weights) room) where
     left : listened N b m tones weights room
         ≡ cond (ltb (first_bad_tone (2 ^ b) tones) 64) (Err (refused_at Reason.Tone (first_bad_tone (2 ^ b) tones)))
-        (cond (ltb (first_bad_weight N weights) 64) (Err (refused_at Reason.Weight (first_bad_weight N weights))) (Ok (heard_of tones weights)))
+        (cond (ltb (first_bad_weight N weights) 64) (Err (refused_at Reason.Weight (first_bad_weight N weights))) (Ok (padded (weighted_of b tones weights))))
     unfolding listened
     left = simp (p.mode, p.lead, eq-eqb (length tones) 64 p.count, eq-eqb (length weights) 64 p.weighed, le-ltb room b p.fits)
 
@@ -113,29 +111,24 @@ module _ (N b m : ℕ) (tones weights : List ℕ) (room : ℕ) where
       pub hears_weight : first_bad_weight N weights < 64 → listened N b m tones weights room ≡ Err (refused_at Reason.Weight (first_bad_weight N weights))
       hears_weight h = rw (le-ltb (first_bad_tone (2 ^ b) tones) 64 r, lt-ltb (first_bad_weight N weights) 64 h) at left
 
-      pub hears : 64 ≤ first_bad_weight N weights → listened N b m tones weights room ≡ Ok (heard_of tones weights)
+      pub hears : 64 ≤ first_bad_weight N weights → listened N b m tones weights room ≡ Ok (padded (weighted_of b tones weights))
       hears h = rw (le-ltb (first_bad_tone (2 ^ b) tones) 64 r, le-ltb (first_bad_weight N weights) 64 h) at left
 
   pub listened_refused : (r : Refusal) → listened N b m tones weights room ≡ Err r
       → heard_block N b m tones weights room ≡ record { answer = Err r; characters = replicate 8 none }
   listened_refused = agrees.refused_as
 
-  pub listened_passed : (heard : Heard) → listened N b m tones weights room ≡ Ok heard
-      → (heard ≡ heard_of tones weights) × (heard_block N b m tones weights room ≡ judged b m (weighted_of b tones weights))
+  pub listened_passed : (found : List Character) → listened N b m tones weights room ≡ Ok found
+      → (found ≡ padded (weighted_of b tones weights)) × (heard_block N b m tones weights room ≡ judged b m (weighted_of b tones weights))
   listened_passed = agrees.passed_as
 
-  -- what is heard passed every check
-  pub listened_checked : (heard : Heard) → listened N b m tones weights room ≡ Ok heard → (is_mode b ≡ true) × HasWeights N weights
+  pub listened_mode : (found : List Character) → listened N b m tones weights room ≡ Ok found → is_mode b ≡ true
   unfolding listened
-  listened_checked heard e =
-      let p1 = passes (not (is_mode b)) (refused_at Reason.Mode 0) _ heard e in
-      let p2 = passes (not (is_lead_at N m)) (refused_at Reason.LeastLead 0) _ heard p1.1 in
-      let p3 = passes (not (eqb (length tones) 64)) (refused_at Reason.ToneCount 0) _ heard p2.1 in
-      let p4 = passes (not (eqb (length weights) 64)) (refused_at Reason.ToneCount 0) _ heard p3.1 in
-      let p5 = passes (ltb room b) (refused_at Reason.Room 0) _ heard p4.1 in
-      let p6 = passes (ltb (first_bad_tone (2 ^ b) tones) 64) (refused_at Reason.Tone (first_bad_tone (2 ^ b) tones)) _ heard p5.1 in
-      let p7 = passes (ltb (first_bad_weight N weights) 64) (refused_at Reason.Weight (first_bad_weight N weights)) (Ok (heard_of tones weights)) heard p6.1 in
-      (not-false _ p1.0, in_range_weights N weights (eqb-true (length weights) 64 (not-false _ p4.0)) (ltb-false (first_bad_weight N weights) 64 p7.0))
+  listened_mode found e = by (is_mode b) refl _ e
+    where
+      by : (t : Bool) → is_mode b ≡ t → (l : Answered (List Character)) → cond (not t) (Err (refused_at Reason.Mode 0)) l ≡ Ok found → is_mode b ≡ true
+      by true h l f = h
+      by false h l f = absurd cc
 
 -- the answer by an array that holds the block's characters
 pub same_decoded : (b m : ℕ) (tones weights : List ℕ) {answer : Answered ℕ} {found : List Character} → answer ≡ judgement_in b m found
@@ -155,10 +148,10 @@ module _ (N b m : ℕ) (tones weights out : List ℕ) where
 -- ---- an accepted block passed every check
 
 -- a text comes of the second of two answers, if the first is a refusal
-told_after : (t : Bool) (reason : Reason) (place n : ℕ) (d : BlockDecoded) → (cond t (refused reason place) d).answer ≡ Ok n → (t ≡ false) × (d.answer ≡ Ok n)
+passes : (t : Bool) (reason : Reason) (place n : ℕ) (d : BlockDecoded) → (cond t (refused reason place) d).answer ≡ Ok n → (t ≡ false) × (d.answer ≡ Ok n)
 unfolding refused
-told_after true reason place n d e = let z : ◌≡◌ {A = ℕ} 0 1 = cc in absurd (omega arith)
-told_after false reason place n d e = (refl, e)
+passes true reason place n d e = let z : ◌≡◌ {A = ℕ} 0 1 = cc in absurd (omega arith)
+passes false reason place n d e = (refl, e)
 
 same_count : {b n : ℕ} → ◌≡◌ {A = Answered ℕ} (Ok b) (Ok n) → n ≡ b
 same_count e = cc
@@ -173,13 +166,13 @@ pub record Accepted (N b m : ℕ) (tones weights : List ℕ) (room n : ℕ) : Ty
 pub accepted : (N b m : ℕ) (tones weights : List ℕ) (room n : ℕ) → (heard_block N b m tones weights room).answer ≡ Ok n → Accepted N b m tones weights room n
 unfolding heard_block
 accepted N b m tones weights room n e =
-    let p1 = told_after _ _ _ _ _ e in
-    let p2 = told_after _ _ _ _ _ p1.1 in
-    let p3 = told_after _ _ _ _ _ p2.1 in
-    let p4 = told_after _ _ _ _ _ p3.1 in
-    let p5 = told_after _ _ _ _ _ p4.1 in
-    let p6 = told_after _ _ _ _ _ p5.1 in
-    let p7 = told_after _ _ _ _ _ p6.1 in
+    let p1 = passes _ _ _ _ _ e in
+    let p2 = passes _ _ _ _ _ p1.1 in
+    let p3 = passes _ _ _ _ _ p2.1 in
+    let p4 = passes _ _ _ _ _ p3.1 in
+    let p5 = passes _ _ _ _ _ p4.1 in
+    let p6 = passes _ _ _ _ _ p5.1 in
+    let p7 = passes _ _ _ _ _ p6.1 in
     let told = text_told m (weighted_of b tones weights) (Ok b) n p7.1 in
     record {
       passed = record {

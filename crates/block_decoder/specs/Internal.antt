@@ -12,8 +12,7 @@ use Rattle.chain.specs.Chain.{missing_mark}
 use Rattle.chain.specs.Tables.{symbol_of}
 use Rattle.tone_range.specs.Range.{first_bad_tone}
 use Rattle.weight_range.specs.Range.{first_bad_weight}
-use Rattle.block_decoder.specs.Decoding.{heard_weight, lead_in}
-use Rattle.block_decoder.specs.declared.Heard.{Heard}
+use Rattle.block_decoder.specs.Decoding.{heard_weight, weighted_of, lead_in, padded}
 
 -- ---- symbols and weights
 
@@ -28,12 +27,9 @@ seen_to tones n = over (tab (λ t. seen_symbol (num tones t)) n) (replicate 64 0
 unfoldable pub heard_weights : List ℕ → List ℕ → List ℕ
 heard_weights tones weights = tab (λ t. heard_weight (num tones t) (num weights t)) 64
 
--- ---- what is heard, or the refusal before any character is decided
+-- ---- the decisions, or the refusal before any is made
 
-unfoldable pub heard_of : List ℕ → List ℕ → Heard
-heard_of tones weights = record { symbols = seen_to tones 64; weights = heard_weights tones weights }
-
-unfoldable pub listened : ℕ → ℕ → ℕ → List ℕ → List ℕ → ℕ → Answered Heard
+unfoldable pub listened : ℕ → ℕ → ℕ → List ℕ → List ℕ → ℕ → Answered (List Character)
 listened N b m tones weights room =
     cond (not (is_mode b)) (Err (refused_at Reason.Mode 0))
     (cond (not (is_lead_at N m)) (Err (refused_at Reason.LeastLead 0))
@@ -42,7 +38,7 @@ listened N b m tones weights room =
     (cond (ltb room b) (Err (refused_at Reason.Room 0))
     (cond (ltb (first_bad_tone (2 ^ b) tones) 64) (Err (refused_at Reason.Tone (first_bad_tone (2 ^ b) tones)))
     (cond (ltb (first_bad_weight N weights) 64) (Err (refused_at Reason.Weight (first_bad_weight N weights)))
-    (Ok (heard_of tones weights))))))))
+    (Ok (padded (weighted_of b tones weights)))))))))
 
 -- ---- the first n characters of eight
 

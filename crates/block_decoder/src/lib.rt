@@ -24,13 +24,6 @@ pub struct BlockDecoded {
     pub characters: [Character; 8],
 }
 
-// The symbol of each tone and the weight that it counts with, both 0 for a missing one.
-#[derive(Clone, Copy)]
-struct Heard {
-    symbols: [u8; 64],
-    weights: [u8; 64],
-}
-
 // Decodes 64 tones to the mode's codes, at the front of codes.
 pub fn decode_block(mode: u32, least_lead: u32, tones: &[u16], codes: &mut [u8]) -> BlockDecoded
     ensures answer { result ≡ decode_block mode least_lead tones.now (length codes.old) }
@@ -96,11 +89,7 @@ fn hear(
     ensures output { codes.new ≡ heard_into (heard_block greatest mode least_lead tones.now weights.now room).answer (codes_of (weighted_of mode tones.now weights.now)) codes.old }
 {
     match listen(greatest, mode, least_lead, tones, weights, room) {
-        Ok(heard) => {
-            let symbols = heard.symbols;
-            let weights = heard.weights;
-            let values = interleaver::values(mode);
-            let characters = characters::decide(mode, 0, &values, &symbols, &weights);
+        Ok(characters) => {
             let answer = judge(mode as usize, least_lead, characters);
             if let Ok(count) = answer {
                 decode::put_codes(count, characters, codes);
@@ -114,7 +103,7 @@ fn hear(
     }
 }
 
-// What is heard of the tones, or the refusal before any character is decided.
+// The decisions on the mode's characters, or the refusal before any is decided.
 fn listen(
     greatest: u8,
     mode: u32,
@@ -122,7 +111,7 @@ fn listen(
     tones: &[u16],
     weights: &[u8],
     room: usize,
-) -> Result<Heard, Refusal>
+) -> Result<[Character; 8], Refusal>
     requires { greatest ≤ 15 }
     ensures { result ≡ listened greatest mode least_lead tones.now weights.now room }
 {
@@ -144,10 +133,9 @@ fn listen(
     if let Some(bad) = weight_range::first_bad_weight(greatest, weights) {
         return Err(Refusal::at(Reason::Weight, bad));
     }
-    Ok(Heard {
-        symbols,
-        weights: decode::heard_weights(tones, weights),
-    })
+    let heard = decode::heard_weights(tones, weights);
+    let values = interleaver::values(mode);
+    Ok(characters::decide(mode, 0, &values, &symbols, &heard))
 }
 
 // The weight that a tone counts with: a missing one has none, whatever was sent.

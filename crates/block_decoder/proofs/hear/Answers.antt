@@ -2,33 +2,21 @@ use Rattle.std.proofs.Common.{◌≡◌, ◌∙◌, sym, ap, ℕ, ◌≤◌, Ok,
 use Rattle.refusal.specs.Refused.{Answered}
 use Rattle.refusal.proofs.Limits.{mode_range}
 use Rattle.block_decoder.specs.Decoding.{weighted_of, padded, heard_block, heard_into}
-use Rattle.block_decoder.specs.Internal.{heard_of}
-use Rattle.block_decoder.specs.declared.Heard.{Heard}
-use Rattle.block_decoder.proofs.Seen.{seen_found}
 use Rattle.block_decoder.specs.declared.BlockDecoded.{BlockDecoded}
-use Rattle.block_decoder.proofs.DecodeCases.{listened_refused, listened_passed, listened_checked, same_decoded, accepted, codes_put}
-use Rattle.chain.proofs.Values.{mode_values}
-use Rattle.weight_range.specs.Range.{HasWeights}
-use Rattle.weight_range.proofs.Ranges.{fewer_weights}
+use Rattle.block_decoder.proofs.DecodeCases.{listened_refused, listened_passed, listened_mode, same_decoded, accepted, codes_put}
 use Rattle.block_decoder.proofs.hear.Goals as goal
 use Rattle.block_decoder.proofs.hear.Goals.{After-judge-answer}
 
 pub judge-answer-requires : goal.judge-answer-requires
-judge-answer-requires c = (mode_range _ (listened_checked _ _ _ _ _ _ _ (sym c.in-Ok.ensures)).0).1
+judge-answer-requires c = (mode_range _ (listened_mode _ _ _ _ _ _ _ (sym c.in-Ok.ensures))).1
 
 -- the decisions are those on the block's characters
-found : (c : After-judge-answer) → let a = c.args in c.decide-characters.result ≡ padded (weighted_of a.mode a.tones.now a.weights.now)
-unfolding heard_of
-found c =
-    let a = c.args in
-    let checked = listened_checked _ _ _ _ _ _ _ (sym c.in-Ok.ensures) in
-    let heard = (listened_passed _ _ _ _ _ _ _ (sym c.in-Ok.ensures)).0 in
-    let few : HasWeights 15 a.weights.now = fewer_weights _ _ 15 c.requires.0 checked.1 in
-    seen_found a.tones.now a.weights.now few a.mode checked.0 _ (c.values-values.ensures ∙ mode_values _ checked.0) _ _ _ (ap (λ (h : Heard). h.symbols) heard) (ap (λ (h : Heard). h.weights) heard) c.decide-characters.ensures
+found : (c : After-judge-answer) → let a = c.args in c.in-Ok.characters ≡ padded (weighted_of a.mode a.tones.now a.weights.now)
+found c = (listened_passed _ _ _ _ _ _ _ (sym c.in-Ok.ensures)).0
 
 -- the answer
 decided : (c : After-judge-answer) → let a = c.args in
-    ◌≡◌ {A = BlockDecoded} (record { answer = c.judge-answer.result; characters = c.decide-characters.result }) (heard_block a.greatest a.mode a.least_lead a.tones.now a.weights.now a.room)
+    ◌≡◌ {A = BlockDecoded} (record { answer = c.judge-answer.result; characters = c.in-Ok.characters }) (heard_block a.greatest a.mode a.least_lead a.tones.now a.weights.now a.room)
 decided c =
     same_decoded _ _ _ _ c.judge-answer.ensures (found c) ∙ sym (listened_passed _ _ _ _ _ _ _ (sym c.in-Ok.ensures)).1
 
@@ -46,7 +34,7 @@ returns-in-Ok-answer c =
     let place = (goal.at.returns-in-Ok-answer c).After-judge-answer in
     let e = c.in-Ok-answer.is in
     record {
-      answer = ap (λ (x : Answered ℕ). record { answer = x; characters = c.decide-characters.result }) (sym e) ∙ decided place;
+      answer = ap (λ (x : Answered ℕ). record { answer = x; characters = c.in-Ok.characters }) (sym e) ∙ decided place;
       output = codes_put _ _ _ _ _ _ _ _ _ _ (accepted_text place e) (found place) c.put_codes.ensures;
     }
 

@@ -7,11 +7,13 @@ use Rattle.refusal.specs.declared.Reason.{Reason}
 use Rattle.refusal.specs.declared.Refusal.{Refusal}
 use Rattle.refusal.proofs.Limits.{mode_range, mode_tones}
 use Rattle.refusal.proofs.Checked.{mode_passed, mode_refused, lead_passed, lead_refused}
+use Rattle.decision.specs.declared.Character.{Character}
 use Rattle.tone_range.specs.Range.{first_bad_tone}
-use Rattle.weight_range.specs.Range.{first_bad_weight}
-use Rattle.block_decoder.specs.Internal.{seen_to, heard_weights, heard_of, listened}
-use Rattle.block_decoder.specs.declared.Heard.{Heard}
-use Rattle.block_decoder.proofs.Seen.{seen_none}
+use Rattle.weight_range.specs.Range.{HasWeights, first_bad_weight}
+use Rattle.weight_range.proofs.Ranges.{in_range_weights, fewer_weights}
+use Rattle.chain.proofs.Values.{mode_values}
+use Rattle.block_decoder.specs.Internal.{seen_to, heard_weights, listened}
+use Rattle.block_decoder.proofs.Seen.{seen_none, seen_found}
 use Rattle.block_decoder.proofs.DecodeCases.{Passed, hears_tone, hears_weight, hears}
 use Rattle.block_decoder.proofs.listen.Goals as goal
 use Rattle.block_decoder.proofs.listen.Goals.{After-look}
@@ -19,14 +21,14 @@ use Rattle.block_decoder.proofs.listen.Goals.{After-look}
 pub returns-in_err-b : goal.returns-in_err-b
 unfolding listened
 returns-in_err-b c =
-    let told : ◌≡◌ {A = Result Heard Refusal} c.from_residual.result (Err c.in_err-b.field-0.0) = search rules in
+    let told : ◌≡◌ {A = Result (List Character) Refusal} c.from_residual.result (Err c.in_err-b.field-0.0) = search rules in
     let known = mode_refused _ _ (sym c.in_err-b.ensures) in
     told ∙ ap Err known.0 ∙ simp known.1
 
 pub returns-in_err-check_lead_at : goal.returns-in_err-check_lead_at
 unfolding listened
 returns-in_err-check_lead_at c =
-    let told : ◌≡◌ {A = Result Heard Refusal} c.from_residual-in_err-check_lead_at.result (Err c.in_err-check_lead_at.field-0.0) = search rules in
+    let told : ◌≡◌ {A = Result (List Character) Refusal} c.from_residual-in_err-check_lead_at.result (Err c.in_err-check_lead_at.field-0.0) = search rules in
     let mode = (mode_passed _ _ (sym c.in_ok-b.ensures)).1 in
     let known = lead_refused _ _ _ (sym c.in_err-check_lead_at.ensures) in
     told ∙ ap Err known.0 ∙ simp (mode, known.1)
@@ -104,14 +106,15 @@ returns-in-Some-first_bad_weight c =
     ∙ sym (hears_weight _ _ _ _ _ _ (settings place) good (omega (arith, known.1, same)))
 
 pub returns : goal.returns
-unfolding heard_of
 returns c =
     let a = c.args in
     let place = (goal.at.returns c).After-look in
+    let p = settings place in
     let good = found_none _ _ (sym (range place) ∙ c.in_default-look.is) in
     let light = found_none _ _ (sym c.first_bad_weight.ensures ∙ c.in_default-first_bad_weight.is) in
     let same = ap (first_bad_weight a.greatest) c.in-Some-as_array.ensures.cases.same in
+    let few : HasWeights 15 a.weights.now = fewer_weights _ _ 15 c.requires (in_range_weights _ _ p.weighed (omega (arith, light, same))) in
     let seen = c.look.ensures.symbols c.in_default-look.is ∙ ap (λ (x : List ℕ). seen_to x 64) c.in-Some.ensures.cases.same in
-    let heard = c.heard_weights.ensures ∙ ap₂ heard_weights c.in-Some.ensures.cases.same c.in-Some-as_array.ensures.cases.same in
-    let both : ◌≡◌ {A = Heard} (record { symbols = c.look.new.symbols; weights = c.heard_weights.result }) (heard_of a.tones.now a.weights.now) = λ i. record { symbols = seen i; weights = heard i } in
-    ap Ok both ∙ sym (hears _ _ _ _ _ _ (settings place) good (omega (arith, light, same)))
+    let heard = c.heard_weights-heard.ensures ∙ ap₂ heard_weights c.in-Some.ensures.cases.same c.in-Some-as_array.ensures.cases.same in
+    ap Ok (seen_found a.tones.now a.weights.now few a.mode p.mode _ (c.values-values.ensures ∙ mode_values _ p.mode) _ _ _ seen heard c.decide.ensures)
+    ∙ sym (hears _ _ _ _ _ _ p good (omega (arith, light, same)))
