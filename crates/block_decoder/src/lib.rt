@@ -103,7 +103,9 @@ fn hear(
     }
 }
 
-// The decisions on the mode's characters, or the refusal before any is decided.
+// The decisions on the mode's characters, or the refusal before any is decided. Called, and not put into the code of its caller, it takes up to
+// 30 instructions more.
+#[inline(always)]
 fn listen(
     greatest: u8,
     mode: u32,
