@@ -1,5 +1,5 @@
 // Lines and their parts, put at the front of what is lent. Eight lines take 880 bytes at most: a field of 64 bits takes 21, one of 32 bits
-// 11, or 12 with a sign. Each function asks for the room of its longest text.
+// 11, or 12 with a sign. Each function asks for the room of its longest text, and promises to take no more.
 ghost use Rattle.std.specs.Prelude.{◌≡◌, ◌++◌, ◌≤◌, length};
 ghost use Rattle.lists.specs.Lists.{over};
 ghost use Rattle.text.specs.Ascii.{space};

@@ -79,10 +79,8 @@ fn take_block(listing: Listing, line: Line, tones: &[u16; TONES], out: &mut [u8]
     ensures output { out.new ≡ over (fitting (block_said listing.mode listing.least_lead listing.blocks line tones.now).text (length out.old)) out.old }
 {
     if !reader::is_readable(line) {
-        return stages::stopped(report::put_unreadable(
-            std::num::wrapping_add_u64(listing.blocks, 2),
-            out,
-        ));
+        let number = listing.blocks.wrapping_add(2);
+        return stages::stopped(report::put_unreadable(number, out));
     }
     take_answer(
         listing,
@@ -111,7 +109,7 @@ fn take_answer(listing: Listing, decoded: BlockDecoded, out: &mut [u8]) -> Progr
         Stage::Blocks,
         listing.mode,
         listing.least_lead,
-        std::num::wrapping_add_u64(listing.blocks, 1),
+        listing.blocks.wrapping_add(1),
         written,
     )
 }

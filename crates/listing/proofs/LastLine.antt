@@ -3,15 +3,15 @@ use mathlib.Core.Path.{◌≡◌}
 use mathlib.Core.Bool.{true, false}
 use mathlib.Core.List.{List, []}
 use Prim.Native.Nat.{ℕ}
-use Rattle.reader.specs.Reader.{is_blank, end_tones}
+use Rattle.reader.specs.Reader.{is_blank}
 use Rattle.stages.specs.declared.Listing.{Listing}
 use Rattle.judge.specs.Judged.{closed}
 use Rattle.listing.specs.Steps.{last_line}
 
 module _ (listing : Listing) (tones : List ℕ) where
-  pub nothing_last : is_blank listing.line ≡ true → (last_line listing tones ≡ record { text = []; next = listing }) × (end_tones listing.line tones ≡ tones)
-  unfolding last_line end_tones
-  nothing_last e = (rw e, rw e)
+  pub nothing_last : is_blank listing.line ≡ true → last_line listing tones ≡ record { text = []; next = listing }
+  unfolding last_line
+  nothing_last e = rw e
 
   pub closes_last : is_blank listing.line ≡ false → last_line listing tones ≡ closed listing tones
   unfolding last_line

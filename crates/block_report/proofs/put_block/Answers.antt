@@ -15,6 +15,7 @@ returns-in-Ok c =
     let put = c.put_characters.ensures in
     let characters = c.args.decoded.characters in
     let size : length characters ≡ 8 = search rules in
-    let taken = ap (characters_text _ _) (sym c.min.ensures) ∙ sym (text_taken c.args.block characters c.min.result (omega (arith, size, c.min.ensures))) in
+    let within = text_taken c.args.block characters c.min.result (omega (arith, size, c.min.ensures)) in
+    let taken = ap (characters_text _ _) (sym c.min.ensures) ∙ sym within in
     let all = put_fitting _ _ c.if-out-lt-ROOM.false (put_as _ (text_accepted _ _ _ c.in-Ok.is ∙ taken) (put.answer, put.output)) in
     record { answer = all.0; output = all.1 }

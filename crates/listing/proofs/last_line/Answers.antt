@@ -9,4 +9,4 @@ pub returns-then-is_blank-clause-output : goal.returns-then-is_blank-clause-outp
 returns-then-is_blank-clause-output c =
     let out = c.args.out.now in
     let same = nothing_last c.args.listing c.args.tones.now (sym c.is_blank.ensures ∙ c.if-is_blank.true) in
-    over_none out ∙ ap (λ (x : Said). over x.text out) (sym same.0)
+    over_none out ∙ ap (λ (x : Said). over x.text out) (sym same)

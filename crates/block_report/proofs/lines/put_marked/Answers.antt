@@ -19,7 +19,8 @@ overflow_add-result c =
     let place = c.put_pair-mark.ensures in
     let put = c.put_labelled.ensures in
     let lead = lead_short c.from.result (omega (arith, c.from.ensures)) in
-    omega (arith, place.short, lead, (put_rest _ _ (place.answer, place.output) _ (omega (arith, c.requires, place.short, lead)) (put.answer, put.output)).0)
+    let rest = put_rest _ _ (place.answer, place.output) _ (omega (arith, c.requires, place.short, lead)) (put.answer, put.output) in
+    omega (arith, place.short, lead, rest.0)
 
 pub returns : goal.returns
 unfolding marked_text place_text ascii tab
