@@ -68,7 +68,7 @@ fn serve(state: &mut [u8; SIZE], depot: usize, tones: &mut [u16]) -> Option<Serv
     let Ok(_) = block_encoder::encode_block(mode, &state[from..to], tones) else {
         return None;
     };
-    take_out(state, depot, at, count);
+    take_out(state, depot, at);
     Some(Served {
         depot: depot as u32,
         mode,
@@ -76,11 +76,12 @@ fn serve(state: &mut [u8; SIZE], depot: usize, tones: &mut [u16]) -> Option<Serv
 }
 
 // Without the block of a place, whose depot was served last.
-fn take_out(state: &mut [u8; SIZE], depot: usize, at: usize, count: usize)
-    requires state { (count ≡ filled state.old) × (count ≤ 150) }
-    requires block { (depot < 30) × (0 < counts_in state.old depot) × (at < count) }
+fn take_out(state: &mut [u8; SIZE], depot: usize, at: usize)
+    requires state { filled state.old ≤ 150 }
+    requires block { (depot < 30) × (0 < counts_in state.old depot) × (at < filled state.old) }
     ensures { TakenOut state.old depot at state.new }
 {
+    let count = usize::from(state[FILLED]);
     places::remove(state, at, count);
     state[COUNTS + depot] -= 1;
     state[FILLED] = (count - 1) as u8;

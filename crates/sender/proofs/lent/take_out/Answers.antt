@@ -4,8 +4,8 @@ use Rattle.sender.proofs.lent.take_out.Goals as goal
 pub returns : goal.returns
 returns c =
     let a = c.args in
-    let r = c.requires in
+    let count = c.from-count.ensures in
     record {
       left = λ q h some few e.
-          rw r.state.0 (served_holds q a.state.now a.depot h r.block.0 some few a.at e c.remove.new.state (rw r.state.0 at c.remove.ensures));
+          rw count (served_holds q a.state.now a.depot h c.requires.block.0 some few a.at e c.remove.new.state (rw count at c.remove.ensures));
     }
