@@ -15,7 +15,7 @@ pub struct Character {
     pub next_correlation: i32,
 }
 
-// What stands where no character is decided.
+// What stands where no character is decided: an answer has eight characters, as C gets them, and no count of them beside it.
 pub const NONE: Character = Character {
     code: 0,
     lead: 0,

@@ -25,7 +25,7 @@ pub fn judge(limit: usize, mode: usize, codes: &[u8]) -> Result<usize, Refusal>
     Ok(n)
 }
 
-// The place after the last code that is not 0, or 0.
+// The place after the last code that is not 0, or 0, which is the count of codes of the empty text and no missing place.
 fn text_end(codes: &[u8]) -> usize
     ensures { result ≡ text_end codes.now }
 {

@@ -65,7 +65,7 @@ fn of_heard(greatest: u8, mode: u32, tones: &[u16], weights: &[u8]) -> Energies
     }
 }
 
-// What is heard of the tones, or the refusal.
+// What is heard of the tones, or the refusal. `block_decoder` has more checks, between these.
 fn listen(greatest: u8, mode: u32, tones: &[u16], weights: &[u8]) -> Result<Heard, Refusal>
     requires { greatest ≤ 15 }
     ensures { result ≡ listened greatest mode tones.now weights.now }
@@ -98,7 +98,8 @@ fn symbol(table: &[u8; 256], tone: u16) -> u8
     }
 }
 
-// What is heard of 64 tones: the symbol of each and the weight that it counts with, both 0 for a missing one.
+// What is heard of 64 tones: the symbol of each and the weight that it counts with, both 0 for a missing one. The faster form of `block_decoder`
+// asks for a limit of 256 at most, so that no other crate may call it.
 fn hear(tones: &[u16; 64], weights: &[u8; 64]) -> Heard
     requires { HasTones 256 tones.now }
     ensures { result ≡ heard_of tones.now weights.now }

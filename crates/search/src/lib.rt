@@ -51,7 +51,8 @@ fn first_clear(mode: u32, least_lead: u32, run: &[u16]) -> Option<usize>
     None
 }
 
-// The symbols of the tones by their lowest eight bits, over the front of symbols.
+// The symbols of the tones by their lowest eight bits, over the front of symbols. `checked_block` has its own for 64 tones, in rows of 16, which
+// takes 80 instructions less a block.
 fn put_symbols(run: &[u16], symbols: &mut [u8])
     requires { length run.now ≤ length symbols.old }
     ensures { symbols.new ≡ over (tab (λ t. symbol_of (num run.now t % 256)) (length run.now)) symbols.old }
@@ -62,7 +63,7 @@ fn put_symbols(run: &[u16], symbols: &mut [u8])
     }
 }
 
-// The weights of the tones, over the front of weights.
+// The weights of the tones, over the front of weights: as many as the run has, where `checked_block` makes an array of 64.
 fn put_weights(limit: u16, run: &[u16], weights: &mut [u8])
     requires { length run.now ≤ length weights.old }
     ensures { weights.new ≡ over (tab (λ t. weight_below limit (num run.now t)) (length run.now)) weights.old }

@@ -60,7 +60,7 @@ impl Sender {
         Sender { bytes: [0; SIZE] }
     }
 
-    // A depot hands in a block.
+    // A depot hands in a block. By value, for callers in Rattle; `lent` is for those that lend the bytes, C among them.
     pub fn hand_in(self, depot: u32, mode: u32, codes: &[u8]) -> AfterHandIn
         ensures run { HandedIn self.bytes depot (record { mode = mode; codes = codes.now }) result.answer result.sender.bytes }
         ensures any { HandedToAny self.bytes depot (record { mode = mode; codes = codes.now }) result.answer result.sender.bytes }

@@ -55,7 +55,7 @@ fn read_input(rt: &impl Print, input: &mut impl Read) -> io::Result<()> {
     read_lines(rt, &buffer[..count])
 }
 
-// Fills the buffer as far as the input goes: how many bytes it has then.
+// Fills the buffer as far as the input goes: how many bytes it has then. Each turn goes on by what a read gave, so that no `for` counts it.
 fn read_front(input: &mut impl Read, buffer: &mut [u8; 4096]) -> io::Result<usize>
     ensures { IfOk result (λ count. count ≤ 4096) }
 {

@@ -1,4 +1,5 @@
-// Text in ASCII, put at the front of an output: bytes, and numbers in decimal. The answer is how many bytes were written.
+// Text in ASCII, put at the front of an output: bytes, and numbers in decimal. The answer is how many bytes were written. It is no Option: what
+// does not fit is written as the empty text (`written`), and 0 is its length.
 #![tactic(auto)]
 
 ghost use Rattle.std.specs.Prelude.{◌≡◌, ◌++◌, ◌+◌, ◌≤◌, nat_abs, length, take, drop};

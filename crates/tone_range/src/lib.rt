@@ -35,5 +35,5 @@ pub fn check(limit: u16, tones: &[u16]) -> Looked
 fn is_bad_tone(limit: u16, tone: u16) -> bool
     ensures { result ≡ nat_le limit tone && not (tone == missing_mark) }
 {
-    limit < std::num::wrapping_add_u16(tone, 1)
+    limit < tone.wrapping_add(1)
 }

@@ -1,4 +1,4 @@
-use Rattle.std.proofs.Common.{◌≡◌, ℕ, ◌+◌, ◌%◌, ◌<◌, not, ◌&&◌, eqb, ltb, leb, sym, ◌∙◌, inl, inr, arith, le-ltb, lt-ltb}
+use Rattle.std.proofs.Common.{◌≡◌, ℕ, ◌+◌, ◌%◌, ◌<◌, not, ◌&&◌, eqb, ltb, leb, refl, sym, ◌∙◌, inl, inr, arith, le-ltb, lt-ltb}
 use native.Mathlib.Decide.{ℕ_discrete, dec_lt}
 use Rattle.chain.specs.Chain.{missing_mark}
 use Rattle.tone_range.proofs.Ranges.{good_tone, bad_tone_lem}
@@ -13,4 +13,4 @@ one_comparison limit tone next h e = by (ℕ_discrete tone 65535) (dec_lt tone l
     by (no n) (no g) = lt-ltb limit next (omega arith) ∙ sym (bad_tone_lem limit tone (omega arith) n)
 
 pub returns : goal.returns
-returns c = one_comparison c.args.limit c.args.tone _ c.ranges.tone.fits c.wrapping_add_u16.ensures.value
+returns c = one_comparison c.args.limit c.args.tone _ c.ranges.tone.fits refl
