@@ -10,8 +10,8 @@ use lib.Dec.{eqb}
 use lib.IntN.{pos}
 use lib.ListN.{length, set, replicate, length-replicate}
 use Rattle.lists.specs.Lists.{tab, num, over}
-use Rattle.lists.proofs.Fronts.{over_start, over_set, over_length, over_tab_whole}
-use Rattle.lists.proofs.Tables.{tab_length, tab_at, tab_ext}
+use Rattle.lists.proofs.Fronts.{over_start, over_set, over_tab_whole}
+use Rattle.lists.proofs.Tables.{tab_at, tab_ext}
 use Rattle.refusal.specs.Checks.{is_mode}
 use Rattle.refusal.proofs.Limits.{mode_range}
 use Rattle.walsh.specs.Words.{signed, turned}
@@ -47,12 +47,6 @@ module _ (tones : List ℕ) where
   pub seen_none : replicate 64 0 ≡ seen_to tones 0
   unfolding seen_to
   seen_none = over_start _ _
-
-  pub seen_length : (n : ℕ) → n ≤ 64 → length (seen_to tones n) ≡ 64
-  unfolding seen_to
-  seen_length n h =
-      over_length (tab (λ t. seen_symbol (num tones t)) n) (replicate 64 0) (omega (arith, tab_length (λ t. seen_symbol (num tones t)) n, zeros))
-      ∙ zeros
 
   seen_more : (t : ℕ) (symbols : List ℕ) (v : ℕ) → t < 64 → symbols ≡ seen_to tones t → v ≡ seen_symbol (num tones t) → set symbols t v ≡ seen_to tones (t + 1)
   unfolding seen_to

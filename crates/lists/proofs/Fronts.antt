@@ -65,10 +65,6 @@ module _ {A : Type 0} (front out : List A) where
   unfolding over
   take_over n e = take_at front (drop (length front) out) n e
 
-  pub over_at : (z : A) (i : ℕ) → i < length front → get_or (over front out) i z ≡ get_or front i z
-  unfolding over
-  over_at z i h = get_or-append front (drop (length front) out) z i h
-
 pub over_tab_whole : {A : Type 0} (f : ℕ → A) (n : ℕ) (d : List A) → length d ≤ n → over (tab f n) d ≡ tab f n
 over_tab_whole f n d h = over_whole (tab f n) d (rw (tab_length f n) h)
 

@@ -7,7 +7,7 @@ use native.Mathlib.Nat.{add-zero, sub-zero}
 use native.Mathlib.Numerals.{add-one}
 use native.Mathlib.Omega.{arith}
 use lib.Dec.{ltb}
-use borrow.Author.Tests.{ltb-false, lt-ltb, le-ltb}
+use borrow.Author.Tests.{lt-ltb, le-ltb}
 use Rattle.lists.specs.Places.{scan, first}
 use Rattle.lists.specs.Laws.{IsFirst, FirstPlace}
 
@@ -143,6 +143,3 @@ any_more p t found h = rw (h, add-one) (by (dec_lt (first p t) t) (first_is p t)
         at : (k : ℕ) → k < suc t → Dec (k ≡ t) → p k ≡ false
         at k g (yes q) = rw q e
         at k g (no ne) = f.lowest k (omega arith)
-
-pub none_found : (p : ℕ → Bool) (n : ℕ) → ltb (first p n) n ≡ false → n ≡ first p n
-none_found p n e = omega (arith, ltb-false (first p n) n e, (first_is p n).within)

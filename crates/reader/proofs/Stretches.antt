@@ -1,5 +1,5 @@
 -- A line read byte by byte, up to a line feed: what is still to be read gives the same.
-use mathlib.Core.Path.{◌≡◌, refl, sym, ◌∙◌, ap}
+use mathlib.Core.Path.{◌≡◌, sym, ◌∙◌, ap}
 use mathlib.Core.Bool.{Bool}
 use mathlib.Core.List.{List, [], ◌∷◌}
 use Prim.Native.Nat.{ℕ, ◌+◌, ◌<◌, ◌≤◌, max}
@@ -34,9 +34,6 @@ pub record ReadsOn (marks : Bool) (bytes : List ℕ) (line₀ : Line) (from : �
   pub the_place : from + length (line_from bytes from) ≡ at + length (line_from bytes at)
 
 module _ (marks : Bool) (bytes : List ℕ) where
-  pub reads_on : (line : Line) (from : ℕ) (tones : List ℕ) → ReadsOn marks bytes line from tones line from tones
-  reads_on line from tones = record { the_line = refl; the_tones = refl; the_place = refl }
-
   module _ {line₀ : Line} {from : ℕ} {tones₀ : List ℕ} (line : Line) (at : ℕ) (tones : List ℕ)
       (r : ReadsOn marks bytes line₀ from tones₀ line at tones) where
     pub reads_byte : {next : Line} {kept : List ℕ} → at < length bytes → (get_or bytes at 0 ≡ line_feed → ⊥)

@@ -9,10 +9,6 @@ use Rattle.checked_block.proofs.put_row.Goals.{Start, At-loop-t}
 pub loop-t-init : goal.loop-t-init
 loop-t-init c = c.requires.2
 
--- as many symbols as at the start
-length_first : (s : Start) → length s.args.symbols.now ≡ 64
-length_first s = rw s.requires.2 (symbols_length s.args.tones.now s.args.from (omega (arith, s.requires.1)))
-
 length_kept : (l : At-loop-t) → length l.loop-t.symbols ≡ 64
 length_kept l = rw l.loop-t.invariant (symbols_length l.args.tones.now l.loop-t.t (omega (arith, l.requires.1)))
 
