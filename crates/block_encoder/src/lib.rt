@@ -56,7 +56,7 @@ fn check_each(codes: &[u8]) -> Result<(), Refusal>
     }
 }
 
-// The lowest place of a code of 128 or more, if there is one.
+// The lowest place of a code of 128 or more, if there is one. In a message 0 is none either: one line there, with a test of its own.
 fn first_bad_code(codes: &[u8]) -> Option<usize>
     ensures { result ≡ position (λ code. leb 128 code) codes.now }
 {

@@ -1,5 +1,5 @@
 // The lines of a block, put at the front of an output: document 01, "The listing program", and order 5. The answer is how many bytes were
-// written. Nothing is written to an output of less than report::ROOM bytes.
+// written. Nothing is written to an output of less than report::ROOM bytes, and 0 is the length of no text.
 #![tactic(auto)]
 
 ghost use Rattle.std.specs.Prelude.{◌≡◌, ◌≤◌, length, get_or};

@@ -7,5 +7,5 @@ pub mod interleaver;
 pub mod laws;
 pub mod scrambler;
 
-// The mark of a missing tone, an erasure. It may stand only in tones to be decoded.
+// The mark of a missing tone, an erasure. It may stand only in tones to be decoded. A number and no Option, since document 01 fixes the mark.
 pub const MISSING: u16 = 65535;

@@ -15,7 +15,8 @@ use block_decoder::{GREATEST_WEIGHT, PLAIN_WEIGHT};
 use chain::{MISSING, gray, interleaver};
 use refusal::{Reason, Refusal, checks};
 
-// What each of the sums equals, or the refusal; and for each of the mode's characters the sum of its 64 squared correlations; the rest of the eight are 0, and all on a refusal.
+// What each of the sums equals, or the refusal; and for each of the mode's characters the sum of its 64 squared correlations. The rest of the
+// eight are 0, and all are on a refusal.
 #[derive(Clone, Copy)]
 pub struct Energies {
     pub answer: Result<u32, Refusal>,

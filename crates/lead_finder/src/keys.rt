@@ -64,7 +64,7 @@ fn magnitudes(numbers: [i16; 64]) -> [u16; 64]
     array::from_fn(|i| magnitude(numbers[i]))
 }
 
-// By negation, as document 01 asks, and not by `unsigned_abs`, which takes the same.
+// By negation, as document 01 asks, and not by `unsigned_abs`, which takes as many instructions.
 fn magnitude(number: i16) -> u16
     requires { nat_abs number ≤ 960 }
     ensures { result ≡ nat_abs number }

@@ -35,14 +35,14 @@ pub fn is_lead_at(greatest: u8, least_lead: u32) -> bool
     1 <= least_lead && least_lead <= 64 * (greatest as u32)
 }
 
-// Whether the set lead is one in plain hearing.
+// The refusal of what is no set lead in plain hearing.
 pub fn check_lead(least_lead: u32) -> Result<(), Refusal>
     ensures { result ≡ checked_lead least_lead }
 {
     check_lead_at(1, least_lead)
 }
 
-// Whether it is one where no weight is above greatest.
+// And of what is none where no weight is above greatest.
 #[tactic(auto, unfolding(crate::specs::Checks::checked_lead_at))]
 pub fn check_lead_at(greatest: u8, least_lead: u32) -> Result<(), Refusal>
     ensures { result ≡ checked_lead_at greatest least_lead }

@@ -61,7 +61,8 @@ impl Reason {
     }
 }
 
-// Why, where, and the lead; the lead is 0 but for Unclear.
+// Why, where, and the lead; the lead is 0 but for Unclear. The lead stands beside the reason, since the documents read and write number, place
+// and lead of every refusal.
 #[derive(Clone, Copy, Debug, PartialEq, Eq)]
 pub struct Refusal {
     pub reason: Reason,

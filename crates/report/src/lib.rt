@@ -1,5 +1,5 @@
 // The lines that end a listing, put at the front of an output: document 01, "The listing program". The answer is how many bytes were
-// written. Nothing is written to an output of less than ROOM bytes.
+// written. Nothing is written to an output of less than ROOM bytes, and 0 is the length of no text.
 #![tactic(auto)]
 
 ghost use Rattle.std.specs.Prelude.{◌≡◌, ◌++◌, ◌≤◌, length};

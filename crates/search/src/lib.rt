@@ -81,8 +81,8 @@ fn window(start: usize, numbers: &[u8]) -> &[u8; 64]
     numbers[start..start + 64].as_array().unwrap()
 }
 
-// Whether the lead of every character of a block is at least least_lead. If not, the last of the mode's is the first whose lead is under it, or it was
-// not decided, and its lead is 0.
+// Whether the lead of every character of a block is at least least_lead. If not, the last of the mode's is the first whose lead is under it, or
+// it was not decided, and its lead is 0.
 fn is_clear(
     mode: u32,
     least_lead: u32,

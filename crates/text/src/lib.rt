@@ -62,7 +62,7 @@ pub fn put_decimal(n: u64, out: &mut [u8]) -> usize
     put_text(&text[from..], out)
 }
 
-// The same, and the byte that follows it.
+// The same, and the byte that follows it. Each of the three makes its text in another array, from which one function writes it.
 pub fn put_field(n: u64, end: u8, out: &mut [u8]) -> usize
     ensures answer { result ≡ length (written (field n end) (length out.old)) }
     ensures output { out.new ≡ over (written (field n end) (length out.old)) out.old }

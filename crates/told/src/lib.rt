@@ -300,7 +300,7 @@ fn characters(characters: [Character; 8]) -> [CharacterAnswer; 8]
     characters.map(CharacterAnswer::from)
 }
 
-// A count for C: 2^32 - 1 stands for every larger one.
+// A count for C: 2^32 - 1 stands for every larger one. One line under a name of its own, by which definitions and exports say so.
 pub fn capped(count: usize) -> u32
     ensures { result ≡ capped count }
 {

@@ -14,7 +14,8 @@ pub struct Looked {
     pub looked: usize,
 }
 
-// Looks at one tone after the other, up to the first that is neither below limit nor missing.
+// Looks at one tone after the other, up to the first that is neither below limit nor missing. The count is kept by the turn that looks, so that
+// it is of what was done.
 pub fn check(limit: u16, tones: &[u16]) -> Looked
     ensures { result ≡ range_of limit tones.now }
 {
