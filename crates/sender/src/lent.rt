@@ -1,5 +1,5 @@
 // The calls on a state that the caller lends. What is no state, by its size, has no block waiting and takes none.
-ghost use Rattle.std.specs.Prelude.{◌≡◌, ◌<◌, ◌≤◌, length};
+ghost use Rattle.std.specs.Prelude.{◌<◌, ◌≤◌, length};
 ghost use Rattle.sender.specs.State.{counts_in, filled};
 ghost use Rattle.sender.specs.Sending.{HandedIn, HandedToAny, SentFrom, SentFromAny};
 ghost use Rattle.sender.specs.Internal.{Stored, TakenOut, ServedFrom};

@@ -40,7 +40,7 @@ pub fn place_of(state: &[u8; SIZE], count: usize, depot: u8) -> Option<usize>
     None
 }
 
-// Moves the places after one of them up. In their part: over the whole state the same copy takes 252 instructions more where 149 places move.
+// Moves the places after one of them up. In their part: over the whole state the same copy takes some 250 instructions more where 149 places move.
 pub fn remove(state: &mut [u8; SIZE], at: usize, count: usize)
     requires { (at < count) × (count ≤ 150) }
     ensures { Removed at count state.old state.new }
