@@ -8,10 +8,10 @@ use super::{COUNTS, SIZE};
 use refusal::{Reason, Refusal};
 
 // The larger of 4 and a depot's waiting blocks.
-fn share(waiting: u8) -> u32
-    ensures { (result ≡ max 4 waiting) × (result ≤ 255) }
+fn share(waiting: u32) -> u32
+    ensures { result ≡ max 4 waiting }
 {
-    u32::from(waiting.max(4))
+    waiting.max(4)
 }
 
 // The sum of all depots' shares.
@@ -20,7 +20,7 @@ fn reserved(state: &[u8; SIZE]) -> u32
 {
     let mut sum = 0;
     for d in 0..30 {
-        sum += share(state[COUNTS + d]);
+        sum += share(u32::from(state[COUNTS + d]));
     }
     sum
 }
@@ -33,7 +33,7 @@ fn place(state: &[u8; SIZE], depot: u32) -> Result<(), Refusal>
         return Err(Refusal::at(Reason::Depot, 0));
     }
     let d = depot as usize;
-    let own = state[COUNTS + d];
+    let own = u32::from(state[COUNTS + d]);
     if 8 <= own {
         return Err(Refusal::at(Reason::DepotFull, d));
     }

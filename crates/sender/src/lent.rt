@@ -1,5 +1,5 @@
 // The calls on a state that the caller lends. What is no state, by its size, has no block waiting and takes none.
-ghost use Rattle.std.specs.Prelude.{◌≡◌, ◌<◌, ◌≤◌, length};
+ghost use Rattle.std.specs.Prelude.{◌<◌, ◌≤◌, length};
 ghost use Rattle.sender.specs.State.{counts_in, filled};
 ghost use Rattle.sender.specs.Sending.{HandedIn, HandedToAny, SentFrom, SentFromAny};
 ghost use Rattle.sender.specs.Internal.{Stored, TakenOut, ServedFrom};
@@ -75,7 +75,8 @@ fn serve(state: &mut [u8; SIZE], depot: usize, tones: &mut [u16]) -> Option<Serv
     })
 }
 
-// Without the block of a place, whose depot was served last.
+// Without the block of a place, whose depot was served last. The count is read here anew: if `serve` passes it, the search in it takes two
+// instructions more, of six, for each place.
 fn take_out(state: &mut [u8; SIZE], depot: usize, at: usize)
     requires state { filled state.old ≤ 150 }
     requires block { (depot < 30) × (0 < counts_in state.old depot) × (at < filled state.old) }

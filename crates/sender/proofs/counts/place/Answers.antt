@@ -8,7 +8,7 @@ pub returns-then-depot-gt29 : goal.returns-then-depot-gt29
 returns-then-depot-gt29 c = ap Err c.at.ensures ∙ sym (refuses_depot _ _ c.if-depot-gt29.true)
 
 pub returns-then-own-ge8 : goal.returns-then-own-ge8
-returns-then-own-ge8 c = ap Err c.at-then-own-ge8.ensures ∙ sym (refuses_full _ _ (omega arith) c.if-own-ge8.true)
+returns-then-own-ge8 c = ap Err c.at-then-own-ge8.ensures ∙ sym (refuses_full _ _ (omega arith) (omega arith))
 
 pub returns-then-share-reserved : goal.returns-then-share-reserved
 returns-then-share-reserved c =
