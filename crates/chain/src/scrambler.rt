@@ -25,8 +25,8 @@ pub fn code_bit(code: u8, t: usize) -> bool
     ensures { result ≡ code_bit code t }
 {
     if code < 64 {
-        walsh::is_minus(code as u64, t as u64)
+        walsh::is_minus(u64::from(code), t as u64)
     } else {
-        !walsh::is_minus((code - 64) as u64, t as u64)
+        !walsh::is_minus(u64::from(code - 64), t as u64)
     }
 }

@@ -32,7 +32,7 @@ pub fn is_lead(least_lead: u32) -> bool
 pub fn is_lead_at(greatest: u8, least_lead: u32) -> bool
     ensures { result ≡ is_lead_at greatest least_lead }
 {
-    1 <= least_lead && least_lead <= 64 * (greatest as u32)
+    1 <= least_lead && least_lead <= 64 * u32::from(greatest)
 }
 
 // The refusal of what is no set lead in plain hearing.
