@@ -26,7 +26,7 @@ fn look_row(
     for t in from..from + 16 {
         let tone = tones[t];
         if tone < limit {
-            symbols[t] = table[tone as usize];
+            symbols[t] = table[usize::from(tone)];
         } else {
             if tone != MISSING {
                 return Some(t);
