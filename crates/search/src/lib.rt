@@ -59,7 +59,7 @@ fn put_symbols(run: &[u16], symbols: &mut [u8])
 {
     let table = gray::symbols();
     for t in 0..run.len() {
-        symbols[t] = table[(run[t] % 256) as usize];
+        symbols[t] = table[usize::from(run[t] % 256)];
     }
 }
 
