@@ -94,7 +94,7 @@ fn symbol(table: &[u8; 256], tone: u16) -> u8
     if tone == MISSING {
         0
     } else {
-        table[tone as usize]
+        table[usize::from(tone)]
     }
 }
 
