@@ -119,13 +119,11 @@ pub fn locate(mode: u32, width: u32, centre: u32, hertz: f64) -> Located
 }
 
 // The refusal of the first check that fails, if one does.
-#[tactic(auto, using(crate::proofs::Settings::mode_tones_of), unfolding(crate::specs::Limits::fault))]
+#[tactic(auto, using(crate::proofs::Settings::mode_tones_of), unfolding(crate::specs::Limits::fault, refusal::specs::Checks::checked_mode))]
 fn check(mode: u32, width: u32, centre: u32, tone: u16) -> Result<(), Refusal>
     ensures { result ≡ answered (fault mode width centre tone) tt }
 {
-    if !checks::is_mode(mode) {
-        return Err(Refusal::at(Reason::Mode, 0));
-    }
+    checks::check_mode(mode)?;
     if !is_width(width) {
         return Err(Refusal::at(Reason::Width, 0));
     }

@@ -26,8 +26,8 @@ use Rattle.characters.specs.Symbols.{symbol_count, symbol_character, symbol_char
 use Rattle.characters.proofs.Reached.{all_decided}
 use Rattle.characters.proofs.TableSigns.{place_count}
 use Rattle.weight_range.specs.Range.{HasWeights}
-use Rattle.block_decoder.specs.Decoding.{heard_weight, heard_symbol, symbols_of, count_of, count_in, weighted_at, weighted_of, padded}
-use Rattle.block_decoder.specs.Internal.{seen_symbol, seen_to, heard_weights}
+use Rattle.block_decoder.specs.Decoding.{heard_weight, heard_weights, heard_symbol, symbols_of, count_of, count_in, weighted_at, weighted_of, padded}
+use Rattle.block_decoder.specs.Internal.{seen_symbol, seen_to}
 use Rattle.block_decoder.proofs.Counts.{symbol_heard, count_missing, count_present}
 
 zeros : length {A = ℕ} (replicate 64 0) ≡ 64

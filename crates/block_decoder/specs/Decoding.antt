@@ -25,6 +25,10 @@ plain = throughout 1
 unfoldable pub heard_weight : ℕ → ℕ → ℕ
 heard_weight tone weight = cond (eqb tone missing_mark) 0 weight
 
+-- the weights that 64 tones count with
+unfoldable pub heard_weights : List ℕ → List ℕ → List ℕ
+heard_weights tones weights = tab (λ t. heard_weight (num tones t) (num weights t)) 64
+
 -- the symbol of a tone; a missing tone's is missing too
 unfoldable pub heard_symbol : ℕ → ℕ
 heard_symbol tone = cond (eqb tone missing_mark) missing_mark (symbol_of tone)

@@ -1,4 +1,4 @@
--- What only private contracts need: the symbols that are seen and the weights that count, and what is found in an answer's array of eight
+-- What only private contracts need: the symbols that are seen, and what is found in an answer's array of eight
 -- characters.
 use Rattle.std.specs.Prelude.{cond, not, List, ℕ, ◌^◌, ltb, eqb, length, get_or, replicate, Ok, Err}
 use Rattle.lists.specs.Lists.{tab, num, over}
@@ -12,9 +12,9 @@ use Rattle.chain.specs.Chain.{missing_mark}
 use Rattle.chain.specs.Tables.{symbol_of}
 use Rattle.tone_range.specs.Range.{first_bad_tone}
 use Rattle.weight_range.specs.Range.{first_bad_weight}
-use Rattle.block_decoder.specs.Decoding.{heard_weight, weighted_of, lead_in, padded}
+use Rattle.block_decoder.specs.Decoding.{weighted_of, lead_in, padded}
 
--- ---- symbols and weights
+-- ---- symbols
 
 -- the symbol of a tone, and 0 for a missing one, which has weight 0
 unfoldable pub seen_symbol : ℕ → ℕ
@@ -23,9 +23,6 @@ seen_symbol tone = cond (eqb tone missing_mark) 0 (symbol_of tone)
 -- 64 symbols: those of the first n tones, and 0 after them
 unfoldable pub seen_to : List ℕ → ℕ → List ℕ
 seen_to tones n = over (tab (λ t. seen_symbol (num tones t)) n) (replicate 64 0)
-
-unfoldable pub heard_weights : List ℕ → List ℕ → List ℕ
-heard_weights tones weights = tab (λ t. heard_weight (num tones t) (num weights t)) 64
 
 -- ---- the decisions, or the refusal before any is made
 

@@ -5,7 +5,7 @@ ghost use Rattle.lists.specs.Places.{scan};
 ghost use Rattle.lists.specs.Found.{found};
 ghost use Rattle.chain.specs.Tables.{symbol_of};
 ghost use Rattle.tone_range.specs.Range.{bad_tone, first_bad_tone};
-ghost use Rattle.block_decoder.specs.Internal.{seen_to, heard_weights, code_in};
+ghost use Rattle.block_decoder.specs.Internal.{seen_to, code_in};
 
 use chain::{MISSING, gray};
 use decision::Character;
@@ -26,7 +26,7 @@ fn look_row(
     for t in from..from + 16 {
         let tone = tones[t];
         if tone < limit {
-            symbols[t] = table[tone as usize];
+            symbols[t] = table[usize::from(tone)];
         } else {
             if tone != MISSING {
                 return Some(t);
@@ -50,17 +50,6 @@ pub fn look(limit: u16, tones: &[u16; 64], symbols: &mut [u8; 64]) -> Option<usi
         }
     }
     None
-}
-
-// The weights that count: a missing tone has none, whatever was sent.
-pub fn heard_weights(tones: &[u16; 64], weights: &[u8; 64]) -> [u8; 64]
-    ensures { result ≡ heard_weights tones.now weights.now }
-{
-    let mut heard = [0u8; 64];
-    for t in 0..64 {
-        heard[t] = super::heard_weight(tones[t], weights[t]);
-    }
-    heard
 }
 
 // The first count codes of the characters, over the front of codes.

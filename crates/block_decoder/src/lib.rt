@@ -2,7 +2,7 @@
 #![tactic(auto)]
 
 ghost use Rattle.std.specs.Prelude.{◌≡◌, ℕ, ◌≤◌, length};
-ghost use Rattle.block_decoder.specs.Decoding.{heard_weight, weighted_of, codes_of, heard_block, decode_block, decode_weighted, heard_into, decoded_into, weighted_into};
+ghost use Rattle.block_decoder.specs.Decoding.{heard_weight, heard_weights, weighted_of, codes_of, heard_block, decode_block, decode_weighted, heard_into, decoded_into, weighted_into};
 ghost use Rattle.block_decoder.specs.Internal.{listened, judgement_in};
 
 use chain::{MISSING, interleaver};
@@ -135,13 +135,24 @@ fn listen(
     if let Some(bad) = weight_range::first_bad_weight(greatest, weights) {
         return Err(Refusal::at(Reason::Weight, bad));
     }
-    let heard = decode::heard_weights(tones, weights);
+    let heard = heard_weights(tones, weights);
     let values = interleaver::values(mode);
     Ok(characters::decide(mode, 0, &values, &symbols, &heard))
 }
 
+// The weights that 64 tones count with.
+pub fn heard_weights(tones: &[u16; 64], weights: &[u8; 64]) -> [u8; 64]
+    ensures { result ≡ heard_weights tones.now weights.now }
+{
+    let mut heard = [0u8; 64];
+    for t in 0..64 {
+        heard[t] = heard_weight(tones[t], weights[t]);
+    }
+    heard
+}
+
 // The weight that a tone counts with: a missing one has none, whatever was sent.
-pub fn heard_weight(tone: u16, weight: u8) -> u8
+fn heard_weight(tone: u16, weight: u8) -> u8
     ensures { result ≡ heard_weight tone weight }
 {
     if tone == MISSING { 0 } else { weight }

@@ -70,7 +70,7 @@ fn put_row(table: &[u8; 256], from: usize, tones: &[u16; 64], symbols: &mut [u8;
     ensures { symbols.new ≡ symbols_to tones.now (from + 16) }
 {
     for t in from..from + 16 {
-        symbols[t] = table[(tones[t] % 256) as usize];
+        symbols[t] = table[usize::from(tones[t] % 256)];
     }
 }
 

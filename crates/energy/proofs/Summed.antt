@@ -16,8 +16,8 @@ use Rattle.chain.specs.Chain.{missing_mark}
 use Rattle.chain.specs.Tables.{place_value}
 use Rattle.characters.specs.Symbols.{symbol_energy, symbol_energies}
 use Rattle.weight_range.specs.Range.{HasWeights}
-use Rattle.block_decoder.specs.Decoding.{heard_weight}
-use Rattle.block_decoder.specs.Internal.{seen_to, heard_weights}
+use Rattle.block_decoder.specs.Decoding.{heard_weight, heard_weights}
+use Rattle.block_decoder.specs.Internal.{seen_to}
 use Rattle.block_decoder.proofs.Seen.{seen_count}
 use Rattle.energy.specs.Energies.{energy_at, squared_weight, total_of, summed}
 use Rattle.energy.specs.Internal.{heard_of}

@@ -5,7 +5,8 @@ use Rattle.refusal.specs.Checks.{is_mode}
 use Rattle.refusal.specs.declared.Reason.{Reason}
 use Rattle.tone_range.specs.Range.{first_bad_tone}
 use Rattle.weight_range.specs.Range.{first_bad_weight}
-use Rattle.block_decoder.specs.Internal.{seen_to, heard_weights}
+use Rattle.block_decoder.specs.Decoding.{heard_weights}
+use Rattle.block_decoder.specs.Internal.{seen_to}
 use Rattle.energy.specs.declared.Heard.{Heard}
 
 unfoldable pub heard_of : List ℕ → List ℕ → Heard

@@ -95,27 +95,24 @@ fn symbol(table: &[u8; 256], tone: u16) -> u8
     if tone == MISSING {
         0
     } else {
-        table[tone as usize]
+        table[usize::from(tone)]
     }
 }
 
-// What is heard of 64 tones: the symbol of each and the weight that it counts with, both 0 for a missing one. The faster form of `block_decoder`
-// asks for a limit of 256 at most, so that no other crate may call it.
+// What is heard of 64 tones: the symbol of each and the weight that it counts with, both 0 for a missing one. `block_decoder` has a faster form for
+// the symbols, which asks for a limit of 256 at most, so that no other crate may call it.
 fn hear(tones: &[u16; 64], weights: &[u8; 64]) -> Heard
     requires { HasTones 256 tones.now }
     ensures { result ≡ heard_of tones.now weights.now }
 {
     let table = gray::symbols();
     let mut symbols = [0u8; 64];
-    let mut heard = [0u8; 64];
     for t in 0..64 {
-        let tone = tones[t];
-        symbols[t] = symbol(&table, tone);
-        heard[t] = block_decoder::heard_weight(tone, weights[t]);
+        symbols[t] = symbol(&table, tones[t]);
     }
     Heard {
         symbols,
-        weights: heard,
+        weights: block_decoder::heard_weights(tones, weights),
     }
 }
 

@@ -23,7 +23,7 @@ ghost use Rattle.olivia.specs.Tried.{TriedForC};
 ghost use Rattle.olivia.specs.WeightedTried.{WeightedTriedForC};
 
 use refusal::{Reason, Refusal, checks};
-use sender::{Sender, lent};
+use sender::{SIZE, Sender, lent};
 use told::{
     Answer, BlockAnswer, EnergiesAnswer, FoundAnswer, LocatedAnswer, ReadAnswer, SentAnswer,
 };
@@ -210,7 +210,7 @@ pub extern "C" fn olivia_sender_new() -> Sender
 // The promise of sender::lent::hand_in, of the answer as C is told it.
 #[unsafe(no_mangle)]
 pub extern "C" fn olivia_hand_in(
-    state: &mut [u8; 1532],
+    state: &mut [u8; SIZE],
     depot: u32,
     mode: u32,
     codes: &[u8],
@@ -222,7 +222,7 @@ pub extern "C" fn olivia_hand_in(
 
 // The promise of sender::lent::send, of the answer as C is told it.
 #[unsafe(no_mangle)]
-pub extern "C" fn olivia_send(state: &mut [u8; 1532], tones: &mut [u16]) -> SentAnswer
+pub extern "C" fn olivia_send(state: &mut [u8; SIZE], tones: &mut [u16]) -> SentAnswer
     ensures { SentForC state.old tones.old result tones.new state.new }
 {
     SentAnswer::from(lent::send(state, tones))

@@ -36,9 +36,9 @@ fn first_clear(mode: u32, least_lead: u32, run: &[u16]) -> Option<usize>
     requires count { (64 ≤ length run.now) × (length run.now ≤ 4096) }
     ensures { result ≡ found (starts run.now) (first (accepted_at mode least_lead run.now) (starts run.now)) }
 {
-    let mut symbols = [0u8; 4096];
+    let mut symbols = [0u8; LONGEST_RUN];
     put_symbols(run, &mut symbols);
-    let mut weights = [0u8; 4096];
+    let mut weights = [0u8; LONGEST_RUN];
     put_weights(checks::tone_count(mode), run, &mut weights);
     let values = interleaver::values(mode);
     for start in 0..run.len() - 63 {
@@ -59,7 +59,7 @@ fn put_symbols(run: &[u16], symbols: &mut [u8])
 {
     let table = gray::symbols();
     for t in 0..run.len() {
-        symbols[t] = table[(run[t] % 256) as usize];
+        symbols[t] = table[usize::from(run[t] % 256)];
     }
 }
 

@@ -12,7 +12,8 @@ use Rattle.tone_range.specs.Range.{first_bad_tone}
 use Rattle.weight_range.specs.Range.{HasWeights, first_bad_weight}
 use Rattle.weight_range.proofs.Ranges.{in_range_weights, fewer_weights}
 use Rattle.chain.proofs.Values.{mode_values}
-use Rattle.block_decoder.specs.Internal.{seen_to, heard_weights, listened}
+use Rattle.block_decoder.specs.Decoding.{heard_weights}
+use Rattle.block_decoder.specs.Internal.{seen_to, listened}
 use Rattle.block_decoder.proofs.Seen.{seen_none, seen_found}
 use Rattle.block_decoder.proofs.DecodeCases.{Passed, hears_tone, hears_weight, hears}
 use Rattle.block_decoder.proofs.listen.Goals as goal

@@ -18,7 +18,7 @@ bounds-symbols-t c = omega (arith, length_kept (goal.at.bounds-symbols-t c).At-l
 pub loop-t-preserved : goal.loop-t-preserved
 loop-t-preserved c =
     let l = c.loop-t in
-    put_symbol c.args.tones.now l.t l.symbols c.args.table.now (omega (arith, c.requires.1)) l.invariant c.requires.0
+    rw c.from.ensures (put_symbol c.args.tones.now l.t l.symbols c.args.table.now (omega (arith, c.requires.1)) l.invariant c.requires.0)
 
 pub returns : goal.returns
 returns c =

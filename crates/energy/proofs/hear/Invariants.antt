@@ -1,11 +1,9 @@
 use mathlib.Core.Path.{◌≡◌}
 use lib.ListN.{replicate}
 use Rattle.lists.specs.Lists.{tab, num, over}
-use Rattle.block_decoder.specs.Decoding.{heard_weight}
 use Rattle.block_decoder.specs.Internal.{seen_symbol}
 use Rattle.energy.proofs.hear.Given as goal
 
 abbrev pub invariant-loop-t : goal.invariant-loop-t
 invariant-loop-t l =
-    (l.symbols ≡ over (tab (λ k. seen_symbol (num l.tones k)) l.t) (replicate 64 0))
-    × (l.heard ≡ over (tab (λ k. heard_weight (num l.tones k) (num l.weights k)) l.t) (replicate 64 0))
+    l.symbols ≡ over (tab (λ k. seen_symbol (num l.tones k)) l.t) (replicate 64 0)

@@ -14,8 +14,8 @@ use Rattle.energy.proofs.symbol.Goals.{Else-tone-eq-MISSING}
 below : (c : Else-tone-eq-MISSING) → c.args.tone < 256
 below c = ⊎_elim (λ l. l) (λ e. absurd (c.if-tone-eq-MISSING.false e)) c.requires.1
 
-pub bounds-table-tone : goal.bounds-table-tone
-bounds-table-tone c = below (goal.at.bounds-table-tone c).Else-tone-eq-MISSING
+pub bounds-table-from : goal.bounds-table-from
+bounds-table-from c = rw c.from.ensures (below (goal.at.bounds-table-from c).Else-tone-eq-MISSING)
 
 pub returns-then-tone-eq-MISSING : goal.returns-then-tone-eq-MISSING
 unfolding seen_symbol
@@ -24,4 +24,4 @@ returns-then-tone-eq-MISSING c = rw (eq-eqb _ _ c.if-tone-eq-MISSING.true)
 pub returns-else-tone-eq-MISSING : goal.returns-else-tone-eq-MISSING
 unfolding seen_symbol
 returns-else-tone-eq-MISSING c =
-    rw (ne_eqb _ _ c.if-tone-eq-MISSING.false) (ap (λ (x : List _). num x c.args.tone) c.requires.0 ∙ tab_at symbol_of 0 256 c.args.tone (below (goal.at.returns-else-tone-eq-MISSING c).Else-tone-eq-MISSING))
+    rw (ne_eqb _ _ c.if-tone-eq-MISSING.false, c.from.ensures) (ap (λ (x : List _). num x c.args.tone) c.requires.0 ∙ tab_at symbol_of 0 256 c.args.tone (below (goal.at.returns-else-tone-eq-MISSING c).Else-tone-eq-MISSING))

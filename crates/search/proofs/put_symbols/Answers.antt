@@ -16,7 +16,7 @@ pub loop-t-preserved : goal.loop-t-preserved
 loop-t-preserved c =
     let l = c.loop-t in
     let table = c.symbols-table.ensures in
-    (simp length-set l.invariant.0, over_set 0 _ l.t _ _ _ (omega (arith, c.requires)) l.invariant.1 (rw table (tab_at symbol_of 0 256 _ (omega arith))))
+    (simp length-set l.invariant.0, over_set 0 _ l.t _ _ _ (omega (arith, c.requires)) l.invariant.1 (rw (table, c.from.ensures) (tab_at symbol_of 0 256 _ (omega arith))))
 
 pub returns : goal.returns
 returns c =

@@ -27,7 +27,7 @@ put c =
     let a = c.args in
     let inside : l.t < 64 = omega (arith, c.requires.2, c.loop-t-test.true) in
     elim c.if-tone-limit.branch [
-      | then-tone-limit w ↦ w.symbols-is ∙ put_symbol a.tones.now l.t l.symbols a.table.now inside l.invariant.1 (omega (arith, w.if-tone-limit.true, c.requires.0)) c.requires.1
+      | then-tone-limit w ↦ (rw w.from.ensures at w.symbols-is) ∙ put_symbol a.tones.now l.t l.symbols a.table.now inside l.invariant.1 (omega (arith, w.if-tone-limit.true, c.requires.0)) c.requires.1
       | else-tone-limit+else-tone w ↦ w.symbols-is ∙ put_none a.tones.now l.t l.symbols inside l.invariant.1 w.if-tone.false
     ]
 

@@ -4,9 +4,8 @@ use lib.Dec.{lit≤}
 use lib.ListN.{replicate}
 use Rattle.lists.specs.Lists.{num}
 use Rattle.lists.proofs.Fronts.{over_start, over_set, over_tab_whole}
-use Rattle.block_decoder.specs.Decoding.{heard_weight}
-use Rattle.block_decoder.specs.Internal.{heard_weights}
-use Rattle.block_decoder.proofs.decode.heard_weights.Goals as goal
+use Rattle.block_decoder.specs.Decoding.{heard_weight, heard_weights}
+use Rattle.block_decoder.proofs.heard_weights.Goals as goal
 
 pub loop-t-init : goal.loop-t-init
 loop-t-init c = over_start _ _
