@@ -152,7 +152,7 @@ pub fn heard_weights(tones: &[u16; 64], weights: &[u8; 64]) -> [u8; 64]
 }
 
 // The weight that a tone counts with: a missing one has none, whatever was sent.
-fn heard_weight(tone: u16, weight: u8) -> u8
+pub fn heard_weight(tone: u16, weight: u8) -> u8
     ensures { result ≡ heard_weight tone weight }
 {
     if tone == MISSING { 0 } else { weight }
