@@ -87,6 +87,7 @@ fn collect(
         let at = k * b;
         let block = &tones[64 * k..64 * k + 64];
         let answer = checked_block::decode(mode, least_lead, block, &mut codes[at..at + b]);
+        // `map_err` and `?` leave open what the search finds no proof of: that the closure's sum fits, and which refusal passes through both.
         if let Err(unclear) = answer {
             return Err(Refusal::unclear(at + unclear.place, unclear.lead));
         }
