@@ -9,7 +9,7 @@ ghost use Rattle.reader.specs.Reader.{is_read, end_tones};
 ghost use Rattle.report.specs.Output.{refused_text, fitting};
 ghost use Rattle.block_decoder.specs.Decoding.{decode_block};
 ghost use Rattle.stages.specs.Stages.{told_in, stops};
-ghost use Rattle.judge.specs.Judged.{checked_said, settings_said, decoded_said, block_said, closed, goes_on};
+ghost use Rattle.judge.specs.Judged.{checked_said, settings_said, block_said, closed, goes_on};
 
 use block_decoder::BlockDecoded;
 use reader::{Line, TONES};
@@ -82,7 +82,7 @@ fn refuse(reason: Reason, out: &mut [u8]) -> Progress
 }
 
 // A line is judged as a whole before its tones are.
-#[tactic(auto, unfolding(crate::specs::Judged::block_said))]
+#[tactic(auto, unfolding(crate::specs::Judged::block_said, crate::specs::Judged::decoded_said))]
 fn take_block(
     mode: u32,
     least_lead: u32,
@@ -99,27 +99,6 @@ fn take_block(
         return stages::stopped(report::put_unreadable(number, out));
     }
     let decoded = decide(mode, least_lead, line.count, tones);
-    take_answer(mode, least_lead, blocks, decoded, out)
-}
-
-// What the first count tones are heard as, with room for any block's codes.
-fn decide(mode: u32, least_lead: u32, count: u8, tones: &[u16; TONES]) -> BlockDecoded
-    ensures { result ≡ decode_block mode least_lead (take count tones.now) 8 }
-{
-    block_decoder::decide_block(mode, least_lead, &tones[..usize::from(count)], 8)
-}
-
-#[tactic(auto, unfolding(crate::specs::Judged::decoded_said))]
-fn take_answer(
-    mode: u32,
-    least_lead: u32,
-    blocks: u64,
-    decoded: BlockDecoded,
-    out: &mut [u8],
-) -> Progress
-    ensures answer { result ≡ told_in (length out.old) (decoded_said mode least_lead blocks decoded) }
-    ensures output { out.new ≡ over (fitting (decoded_said mode least_lead blocks decoded).text (length out.old)) out.old }
-{
     let written = block_report::put_block(blocks, decoded, out);
     if !goes_on(decoded.answer) {
         return stages::stopped(written);
@@ -130,6 +109,13 @@ fn take_answer(
         blocks: blocks.wrapping_add(1),
     };
     stages::before_line(next, written)
+}
+
+// What the first count tones are heard as, with room for any block's codes.
+fn decide(mode: u32, least_lead: u32, count: u8, tones: &[u16; TONES]) -> BlockDecoded
+    ensures { result ≡ decode_block mode least_lead (take count tones.now) 8 }
+{
+    block_decoder::decide_block(mode, least_lead, &tones[..usize::from(count)], 8)
 }
 
 // An unclear block is listed; any other refusal is the end.
