@@ -9,7 +9,7 @@ ghost use Rattle.reader.specs.Reader.{is_read, end_tones};
 ghost use Rattle.report.specs.Output.{refused_text, fitting};
 ghost use Rattle.block_decoder.specs.Decoding.{decode_block};
 ghost use Rattle.stages.specs.Stages.{told_in, stops};
-ghost use Rattle.judge.specs.Judged.{checked_said, settings_said, decoded_said, block_said, closed, goes_on};
+ghost use Rattle.judge.specs.Judged.{checked_said, settings_said, block_said, closed, goes_on};
 
 use block_decoder::BlockDecoded;
 use reader::{Line, TONES};
@@ -26,7 +26,11 @@ pub fn close(listing: Listing, tones: &mut [u16; TONES], out: &mut [u8]) -> Prog
     let line = reader::end_line(listing.line, tones);
     match listing.stage {
         Stage::Settings => take_settings(line, tones, out),
-        Stage::Blocks => take_block(listing, line, tones, out),
+        Stage::Blocks {
+            mode,
+            least_lead,
+            blocks,
+        } => take_block(mode, least_lead, blocks, line, tones, out),
         Stage::Stopped => stages::stopped(0),
     }
 }
@@ -62,7 +66,12 @@ fn check_settings(mode: u32, least_lead: u32, out: &mut [u8]) -> Progress
     if !checks::is_lead(least_lead) {
         return refuse(Reason::LeastLead, out);
     }
-    stages::before_line(Stage::Blocks, mode, least_lead, 0, 0)
+    let first = Stage::Blocks {
+        mode,
+        least_lead,
+        blocks: 0,
+    };
+    stages::before_line(first, 0)
 }
 
 fn refuse(reason: Reason, out: &mut [u8]) -> Progress
@@ -73,20 +82,33 @@ fn refuse(reason: Reason, out: &mut [u8]) -> Progress
 }
 
 // A line is judged as a whole before its tones are.
-#[tactic(auto, unfolding(crate::specs::Judged::block_said))]
-fn take_block(listing: Listing, line: Line, tones: &[u16; TONES], out: &mut [u8]) -> Progress
-    ensures answer { result ≡ told_in (length out.old) (block_said listing.mode listing.least_lead listing.blocks line tones.now) }
-    ensures output { out.new ≡ over (fitting (block_said listing.mode listing.least_lead listing.blocks line tones.now).text (length out.old)) out.old }
+#[tactic(auto, unfolding(crate::specs::Judged::block_said, crate::specs::Judged::decoded_said))]
+fn take_block(
+    mode: u32,
+    least_lead: u32,
+    blocks: u64,
+    line: Line,
+    tones: &[u16; TONES],
+    out: &mut [u8],
+) -> Progress
+    ensures answer { result ≡ told_in (length out.old) (block_said mode least_lead blocks line tones.now) }
+    ensures output { out.new ≡ over (fitting (block_said mode least_lead blocks line tones.now).text (length out.old)) out.old }
 {
     if !reader::is_readable(line) {
-        let number = listing.blocks.wrapping_add(2);
+        let number = blocks.wrapping_add(2);
         return stages::stopped(report::put_unreadable(number, out));
     }
-    take_answer(
-        listing,
-        decide(listing.mode, listing.least_lead, line.count, tones),
-        out,
-    )
+    let decoded = decide(mode, least_lead, line.count, tones);
+    let written = block_report::put_block(blocks, decoded, out);
+    if !goes_on(decoded.answer) {
+        return stages::stopped(written);
+    }
+    let next = Stage::Blocks {
+        mode,
+        least_lead,
+        blocks: blocks.wrapping_add(1),
+    };
+    stages::before_line(next, written)
 }
 
 // What the first count tones are heard as, with room for any block's codes.
@@ -94,24 +116,6 @@ fn decide(mode: u32, least_lead: u32, count: u8, tones: &[u16; TONES]) -> BlockD
     ensures { result ≡ decode_block mode least_lead (take count tones.now) 8 }
 {
     block_decoder::decide_block(mode, least_lead, &tones[..usize::from(count)], 8)
-}
-
-#[tactic(auto, unfolding(crate::specs::Judged::decoded_said))]
-fn take_answer(listing: Listing, decoded: BlockDecoded, out: &mut [u8]) -> Progress
-    ensures answer { result ≡ told_in (length out.old) (decoded_said listing.mode listing.least_lead listing.blocks decoded) }
-    ensures output { out.new ≡ over (fitting (decoded_said listing.mode listing.least_lead listing.blocks decoded).text (length out.old)) out.old }
-{
-    let written = block_report::put_block(listing.blocks, decoded, out);
-    if !goes_on(decoded.answer) {
-        return stages::stopped(written);
-    }
-    stages::before_line(
-        Stage::Blocks,
-        listing.mode,
-        listing.least_lead,
-        listing.blocks.wrapping_add(1),
-        written,
-    )
 }
 
 // An unclear block is listed; any other refusal is the end.

@@ -46,7 +46,7 @@ module _ (c : After-finish-ending) (h : c.last_line-last.result.written + 1024 �
   rest = drop c.last_line-last.result.written (c.last_line-last.new.out ++ drop 1024 c.args.out.now)
 
   ending : let after = c.last_line-last.result.listing in
-      Put (ending_text after.stage after.blocks) (take size rest) c.finish-ending.result c.finish-ending.new.out
+      Put (ending_text after.stage) (take size rest) c.finish-ending.result c.finish-ending.new.out
   ending =
       let told = c.finish-ending.ensures in
       let front = c.last_line-last.new.out ++ drop 1024 c.args.out.now in
@@ -68,7 +68,7 @@ returns c =
     let last = c.last_line-last in
     let front = put_front _ _ 1024 (ap (λ (x : Progress). x.written) last.ensures.answer, last.ensures.output) last.auto.out in
     let said = last_line c.args.listing c.args.tones.now in
-    let texts = ap (λ (x : Progress). said.text ++ ending_text x.listing.stage x.listing.blocks) (sym last.ensures.answer) in
+    let texts = ap (λ (x : Progress). said.text ++ ending_text x.listing.stage) (sym last.ensures.answer) in
     let all = put_as c.args.out.now texts (put_part _ _ _ front _ (size put room) (ending put room) c.finish-ending.auto.out) in
     let told = c.stopped.ensures ∙ ap (λ (n : ℕ). record { listing = stopped; written = n }) all.0 in
     record { answer = told; kept = last.ensures.kept; output = all.1 }
