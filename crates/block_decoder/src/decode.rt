@@ -1,5 +1,5 @@
 // The parts of decoding a block.
-ghost use Rattle.std.specs.Prelude.{◌≡◌, ◌+◌, ◌≤◌, length, None};
+ghost use Rattle.std.specs.Prelude.{◌≡◌, ◌+◌, ◌≤◌, length};
 ghost use Rattle.lists.specs.Lists.{tab, over};
 ghost use Rattle.lists.specs.Places.{scan};
 ghost use Rattle.lists.specs.Found.{found};
@@ -21,7 +21,7 @@ fn look_row(
 ) -> Option<usize>
     requires { (limit ≤ 256) × (table.now ≡ tab symbol_of 256) × (from + 16 ≤ 64) × (symbols.old ≡ seen_to tones.now from) }
     ensures place { result ≡ found (from + 16) (scan (bad_tone limit tones.now) from 16) }
-    ensures symbols { result ≡ None → symbols.new ≡ seen_to tones.now (from + 16) }
+    ensures symbols { symbols.new ≡ seen_to tones.now (scan (bad_tone limit tones.now) from 16) }
 {
     for t in from..from + 16 {
         let tone = tones[t];
@@ -41,7 +41,7 @@ fn look_row(
 pub fn look(limit: u16, tones: &[u16; 64], symbols: &mut [u8; 64]) -> Option<usize>
     requires { (limit ≤ 256) × (symbols.old ≡ seen_to tones.now 0) }
     ensures place { result ≡ found 64 (first_bad_tone limit tones.now) }
-    ensures symbols { result ≡ None → symbols.new ≡ seen_to tones.now 64 }
+    ensures symbols { symbols.new ≡ seen_to tones.now (first_bad_tone limit tones.now) }
 {
     let table = gray::symbols();
     for row in 0..4 {

@@ -5,6 +5,7 @@ use Prim.Native.Nat.{ℕ, ◌+◌, ◌-◌, ◌≤◌, ◌^◌}
 use native.Mathlib.Omega.{arith}
 use lib.ListN.{length, take, drop}
 use Rattle.lists.specs.Lists.{num}
+use Rattle.lists.specs.Found.{found}
 use Rattle.lists.proofs.Places.{first_ext}
 use Rattle.refusal.specs.Checks.{IsSet}
 use Rattle.tone_range.specs.Range.{HasTones, first_bad_tone}
@@ -41,3 +42,7 @@ module _ (b m : ℕ) (run : List ℕ) (good : length run ≤ first_bad_tone (2 ^
     pub search_finds : length run ≤ longest_run → first_accepted b m run ≡ first_start b m run room
     unfolding first_start
     search_finds short = sym (searched b m run short) ∙ first_ext _ _ (starts run) (λ start l. same_answer start (omega arith))
+
+    -- the same of what is handed to the search, where that is the run
+    pub finds_first_start : length run ≤ longest_run → (heard : List ℕ) → heard ≡ run → found (starts heard) (first_accepted b m heard) ≡ found (starts run) (first_start b m run room)
+    finds_first_start short heard whole = rw whole (ap (found (starts run)) (search_finds short))

@@ -39,10 +39,10 @@ unfoldable pub block_said : ℕ → ℕ → ℕ → Line → List ℕ → Said
 block_said b m k line tones =
     cond (is_read line) (decoded_said b m k (decode_block b m (take line.count tones) 8)) (stops (unreadable_text ((k + 2) % 2 ^ 64)))
 
-unfoldable pub judged : Stage → Line → List ℕ → Said
-judged Settings line tones = settings_said line tones
-judged (Blocks b m k) line tones = block_said b m k line tones
-judged Stopped line tones = stops []
+unfoldable pub judged : Stage → Listing → Line → List ℕ → Said
+judged Settings listing line tones = settings_said line tones
+judged Blocks listing line tones = block_said listing.mode listing.least_lead listing.blocks line tones
+judged Stopped listing line tones = stops []
 
 unfoldable pub closed : Listing → List ℕ → Said
-closed listing tones = judged listing.stage (line_end listing.line) (end_tones listing.line tones)
+closed listing tones = judged listing.stage listing (line_end listing.line) (end_tones listing.line tones)

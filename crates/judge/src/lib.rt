@@ -26,11 +26,14 @@ pub fn close(listing: Listing, tones: &mut [u16; TONES], out: &mut [u8]) -> Prog
     let line = reader::end_line(listing.line, tones);
     match listing.stage {
         Stage::Settings => take_settings(line, tones, out),
-        Stage::Blocks {
-            mode,
-            least_lead,
-            blocks,
-        } => take_block(mode, least_lead, blocks, line, tones, out),
+        Stage::Blocks => take_block(
+            listing.mode,
+            listing.least_lead,
+            listing.blocks,
+            line,
+            tones,
+            out,
+        ),
         Stage::Stopped => stages::stopped(0),
     }
 }
@@ -66,12 +69,7 @@ fn check_settings(mode: u32, least_lead: u32, out: &mut [u8]) -> Progress
     if !checks::is_lead(least_lead) {
         return refuse(Reason::LeastLead, out);
     }
-    let first = Stage::Blocks {
-        mode,
-        least_lead,
-        blocks: 0,
-    };
-    stages::before_line(first, 0)
+    stages::before_line(Stage::Blocks, mode, least_lead, 0, 0)
 }
 
 fn refuse(reason: Reason, out: &mut [u8]) -> Progress
@@ -103,12 +101,8 @@ fn take_block(
     if !goes_on(decoded.answer) {
         return stages::stopped(written);
     }
-    let next = Stage::Blocks {
-        mode,
-        least_lead,
-        blocks: blocks.wrapping_add(1),
-    };
-    stages::before_line(next, written)
+    let next = blocks.wrapping_add(1);
+    stages::before_line(Stage::Blocks, mode, least_lead, next, written)
 }
 
 // What the first count tones are heard as, with room for any block's codes.

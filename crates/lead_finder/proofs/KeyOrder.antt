@@ -1,5 +1,5 @@
 -- The largest key is that of the foremost word, so that the passes over the keys find the decision.
-use mathlib.Core.Path.{◌≡◌, refl, ◌∙◌, ap, ap₂}
+use mathlib.Core.Path.{◌≡◌, refl, sym, ◌∙◌, ap, ap₂}
 use mathlib.Core.List.{List, [], ◌∷◌}
 use mathlib.Core.Logic.{◌≢◌}
 use Prim.Native.Nat.{ℕ, zero, suc, ◌+◌, ◌-◌, ◌*◌, ◌/◌, ◌%◌, ◌<◌, ◌≤◌, max}
@@ -7,8 +7,8 @@ use Rattle.std.specs.List.{fold}
 use native.Mathlib.Decide.{ℕ_discrete, dec_lt}
 use native.Mathlib.Omega.{arith}
 use lib.IntN.{ℤ, nat_abs}
-use lib.ListN.{length, set, length-set, get_or-eq_default}
-use lib.Seq.{get_or-set_same, get_or-set_other}
+use lib.ListN.{length, set, take, length-set, get_or-eq_default}
+use lib.Seq.{get_or-set_same, get_or-set_other, take-length}
 use Rattle.lists.specs.Lists.{tab, num}
 use Rattle.lists.proofs.Tables.{tab_length, tab_at, tab_ext}
 use Rattle.decision.specs.Decision.{best, runner_up, negative, code_of, decision_for, decision}
@@ -35,6 +35,15 @@ all_below a B (y ∷ x) h g = all_below (max a y) B x (omega (arith, g 0 (omega 
 largest_fold : (x : List ℕ) → largest x ≡ fold max 0 x
 largest_fold [] = refl
 largest_fold (y ∷ x) = ap (λ (a : ℕ). fold max a x) (omega arith)
+
+-- so far and with one number more, and of all
+pub largest_more : (a : ℕ) (x : List ℕ) (i : ℕ) → i < length x → fold max a (take (suc i) x) ≡ max (fold max a (take i x)) (num x i)
+largest_more a [] i l = absurd (omega arith)
+largest_more a (y ∷ x) zero l = refl
+largest_more a (y ∷ x) (suc i) l = largest_more (max a y) x i (omega arith)
+
+pub largest_all : (x : List ℕ) (n : ℕ) → n ≡ length x → fold max 0 (take n x) ≡ largest x
+largest_all x n e = rw e (ap (fold max 0) (take-length x)) ∙ sym (largest_fold x)
 
 -- it is at w, if none is larger
 largest_at : (x : List ℕ) (w : ℕ) → w < length x → ((k : ℕ) → k < length x → num x k ≤ num x w) → largest x ≡ num x w

@@ -91,11 +91,18 @@ fn narrow(number: i32) -> i16
     number.clamp(-32768, 32767) as i16
 }
 
-// The largest of the keys.
+// The largest of the keys. By place: with the library's `max`, one of the two uses is no vector code in the listing program, which takes 137
+// instructions a character more.
 fn largest(keys: &[u16; 64]) -> u16
     ensures { result ≡ largest keys.now }
 {
-    keys.iter().copied().max().unwrap_or(0)
+    let mut most = 0;
+    for word in 0..64 {
+        if most < keys[word] {
+            most = keys[word];
+        }
+    }
+    most
 }
 
 fn code_of(word: usize, correlation: i32) -> u8

@@ -151,7 +151,7 @@ pub closed_paid : (s : Listing) (tones : List ℕ) → length (closed s tones).t
 unfolding closed judged
 closed_paid s tones = (by s.stage).paid
   where
-    by : (g : Stage) → Paid (cond (is_stopped g) 0 (spent s.line + 128)) (judged g (line_end s.line) (end_tones s.line tones))
+    by : (g : Stage) → Paid (cond (is_stopped g) 0 (spent s.line + 128)) (judged g s (line_end s.line) (end_tones s.line tones))
     by Settings = settings_paid s.line (line_end s.line) (end_tones s.line tones)
-    by (Blocks b m k) = block_paid b m k s.line (end_tones s.line tones)
+    by Blocks = block_paid s.mode s.least_lead s.blocks s.line (end_tones s.line tones)
     by Stopped = record { paid = λ h. omega arith }

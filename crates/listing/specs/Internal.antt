@@ -7,7 +7,14 @@ use Rattle.listing.specs.declared.Within.{Within}
 
 -- a listing with more bytes of its line read
 unfoldable pub line_read : Listing → List ℕ → Listing
-line_read listing bytes = record { stage = listing.stage; line = read_line (takes_marks listing.stage) listing.line bytes }
+line_read listing bytes =
+    record {
+      stage = listing.stage;
+      mode = listing.mode;
+      least_lead = listing.least_lead;
+      blocks = listing.blocks;
+      line = read_line (takes_marks listing.stage) listing.line bytes;
+    }
 
 unfoldable pub tones_read : Listing → List ℕ → List ℕ → List ℕ
 tones_read listing bytes tones = read_tones (takes_marks listing.stage) listing.line bytes tones

@@ -13,12 +13,19 @@ use Rattle.judge.specs.Judged.{closed}
 -- `-` may stand in every line but the first
 abbrev pub takes_marks : Stage → Bool
 takes_marks Settings = false
-takes_marks (Blocks b m k) = true
+takes_marks Blocks = true
 takes_marks Stopped = true
 
 -- a byte that is no line feed
 unfoldable pub within_line : Listing → ℕ → Listing
-within_line listing c = record { stage = listing.stage; line = next_line (takes_marks listing.stage) listing.line c }
+within_line listing c =
+    record {
+      stage = listing.stage;
+      mode = listing.mode;
+      least_lead = listing.least_lead;
+      blocks = listing.blocks;
+      line = next_line (takes_marks listing.stage) listing.line c;
+    }
 
 unfoldable pub stepped : Listing → ℕ → List ℕ → Said
 stepped listing c tones = cond (eqb c line_feed) (closed listing tones) (record { text = []; next = within_line listing c })
@@ -47,7 +54,7 @@ last_line listing tones = cond (is_blank listing.line) (record { text = []; next
 
 -- after the text at the input's end nothing follows
 unfoldable pub ended : Listing → List ℕ → Said
-ended listing tones = and_then (last_line listing tones).text (stops (ending_text (last_line listing tones).next.stage))
+ended listing tones = and_then (last_line listing tones).text (stops (ending_text (last_line listing tones).next.stage (last_line listing tones).next.blocks))
 
 -- what is heard at once: a piece of the input, or no bytes at its end
 unfoldable pub heard : Listing → List ℕ → List ℕ → Said

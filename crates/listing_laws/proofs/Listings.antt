@@ -188,12 +188,12 @@ module _ (pieces : List (List ℕ)) (tones : List ℕ) (full : every is_piece pi
       (printed_lines pieces begun tones full ∙ lines_listed_lem (lines (together pieces)) tones size (omega (arith, lines_size (together pieces))))
 
   live_listed : (input : List ℕ) → together pieces ≡ input ++ (line_feed ∷ []) → let said = pieces_said begun tones pieces in
-      heading ++ (said.text ++ ending_text said.next.stage) ≡ listed (together pieces)
+      heading ++ (said.text ++ ending_text said.next.stage said.next.blocks) ≡ listed (together pieces)
   unfolding printed heard
   live_listed input e =
       let once = at_once pieces begun tones full in
       let ending = (λ i. (ended (once.0 i).next (once.1 i)).text) ∙ last_ending (together pieces) input begun tones e
-      ∙ ap (λ (x : Said). ending_text x.next.stage) (sym once.0) in
+      ∙ ap (λ (x : Said). ending_text x.next.stage x.next.blocks) (sym once.0) in
       ap (λ (x : List ℕ). heading ++ ((pieces_said begun tones pieces).text ++ x)) (sym ending) ∙ whole_listed
 
 pub whole : Whole

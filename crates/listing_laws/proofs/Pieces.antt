@@ -39,19 +39,19 @@ either_fresh : (t : Bool) (x y : Said) → x.next.line ≡ fresh → y.next.line
 either_fresh true x y p q = p
 either_fresh false x y p q = q
 
-judged_fresh : (g : Stage) (line : Line) (tones : List ℕ) → (judged g line tones).next.line ≡ fresh
+judged_fresh : (g : Stage) (s : Listing) (line : Line) (tones : List ℕ) → (judged g s line tones).next.line ≡ fresh
 unfolding judged settings_said checked_said block_said decoded_said
-judged_fresh Settings line tones =
+judged_fresh Settings s line tones =
     either_fresh (is_empty line.word && eqb line.count 2) _ _
     (either_fresh (not (is_mode (num tones 0))) _ _ refl (either_fresh (not (is_lead (num tones 1))) _ _ refl refl)) refl
-judged_fresh (Blocks b m k) line tones =
+judged_fresh Blocks s line tones =
     either_fresh (is_empty line.word) _ _
-    (either_fresh (goes_on (decode_block b m (take line.count tones) 8).answer) _ _ refl refl) refl
-judged_fresh Stopped line tones = refl
+    (either_fresh (goes_on (decode_block s.mode s.least_lead (take line.count tones) 8).answer) _ _ refl refl) refl
+judged_fresh Stopped s line tones = refl
 
 closed_fresh : (s : Listing) (tones : List ℕ) → (closed s tones).next.line ≡ fresh
 unfolding closed
-closed_fresh s tones = judged_fresh s.stage (line_end s.line) (end_tones s.line tones)
+closed_fresh s tones = judged_fresh s.stage s (line_end s.line) (end_tones s.line tones)
 
 -- ---- byte by byte
 
@@ -60,13 +60,13 @@ abbrev all_said : Listing → List ℕ → List ℕ → List ℕ
 all_said s tones cs = (piece_said s tones cs).text ++ (ended (piece_said s tones cs).next (piece_tones s tones cs)).text
 
 -- an input that ends after a line
-finished_after : (s : Listing) (tones x : List ℕ) → (ended (closed s tones).next x).text ≡ ending_text (closed s tones).next.stage
+finished_after : (s : Listing) (tones x : List ℕ) → (ended (closed s tones).next x).text ≡ ending_text (closed s tones).next.stage (closed s tones).next.blocks
 unfolding ended and_then last_line
 finished_after s tones x = rw (closed_fresh s tones)
 
 -- an input that ends within a line
 finished_within : (s : Listing) (tones : List ℕ) → is_blank s.line ≡ false
-    → (ended s tones).text ≡ (closed s tones).text ++ ending_text (closed s tones).next.stage
+    → (ended s tones).text ≡ (closed s tones).text ++ ending_text (closed s tones).next.stage (closed s tones).next.blocks
 unfolding ended and_then
 finished_within s tones e = rw (closes_last s tones e)
 
@@ -96,7 +96,7 @@ byte_lines (c ∷ cs) s tones = append_assoc (stepped s c tones).text _ _ ∙ by
 
 stopped_stage : (g : Stage) → is_stopped g ≡ true → g ≡ Stopped
 stopped_stage Settings e = let z : ◌≡◌ {A = ℕ} 0 1 = cc in absurd (omega arith)
-stopped_stage (Blocks b m k) e = let z : ◌≡◌ {A = ℕ} 0 1 = cc in absurd (omega arith)
+stopped_stage Blocks e = let z : ◌≡◌ {A = ℕ} 0 1 = cc in absurd (omega arith)
 stopped_stage Stopped e = refl
 
 pub stopped_lines : (ls : List (List ℕ)) (s : Listing) (tones : List ℕ) → s.stage ≡ Stopped → from_lines s tones ls ≡ []
@@ -148,7 +148,7 @@ feed_fresh (c ∷ cs) s tones = feed_fresh cs (stepped s c tones).next (stepped_
 
 -- what a listing prints at the end, if a line feed was last
 pub last_ending : (cs input : List ℕ) (s : Listing) (tones : List ℕ) → cs ≡ input ++ (line_feed ∷ []) → let said = piece_said s tones cs in
-    (ended said.next (piece_tones s tones cs)).text ≡ ending_text said.next.stage
+    (ended said.next (piece_tones s tones cs)).text ≡ ending_text said.next.stage said.next.blocks
 unfolding ended and_then last_line
 last_ending cs input s tones e = rw (ap (λ (x : List ℕ). (piece_said s tones x).next.line) e ∙ feed_fresh input s tones)
 

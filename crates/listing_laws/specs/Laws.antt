@@ -19,7 +19,7 @@ pub record Live : Type 0 where
   pub lines : (pieces : List (List ℕ)) (tones input : List ℕ) → every is_piece pieces ≡ true → length tones ≡ 256 → length (together pieces) < 2 ^ 64
       → together pieces ≡ input ++ (line_feed ∷ [])
       → let said = pieces_said begun tones pieces in
-      heading ++ (said.text ++ ending_text said.next.stage) ≡ listed (together pieces)
+      heading ++ (said.text ++ ending_text said.next.stage said.next.blocks) ≡ listed (together pieces)
 
 -- a listing has stopped at the input's end, and one that has stopped prints nothing more
 pub record Stops : Type 0 where

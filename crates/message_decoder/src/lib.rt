@@ -1,7 +1,7 @@
 // A text of several blocks, decoded: document 01, "Messages".
 #![tactic(auto)]
 
-ghost use Rattle.std.specs.Prelude.{◌≡◌, true, ◌+◌, ◌*◌, ◌≤◌, ◌^◌, length, Ok};
+ghost use Rattle.std.specs.Prelude.{◌≡◌, true, ◌+◌, ◌*◌, ◌≤◌, ◌^◌, length, take, Ok};
 ghost use Rattle.lists.specs.Lists.{over};
 ghost use Rattle.refusal.specs.Checks.{is_mode, is_lead};
 ghost use Rattle.tone_range.specs.Range.{first_bad_tone};
@@ -102,6 +102,16 @@ fn deliver(limit: usize, mode: usize, codes: &[u8], text: &mut [u8]) -> Result<u
     ensures output { text.new ≡ heard_into (delivery limit mode codes.now) codes.now text.old }
 {
     let n = delivery::judge(limit, mode, codes)?;
-    text[..n].copy_from_slice(&codes[..n]);
+    put_text(n, codes, text);
     Ok(n)
+}
+
+// The first n codes, over the front of text. Code by code: `copy_from_slice` makes a C library that asks for `memmove`.
+fn put_text(n: usize, codes: &[u8], text: &mut [u8])
+    requires { (n ≤ length codes.now) × (n ≤ length text.old) }
+    ensures { text.new ≡ over (take n codes.now) text.old }
+{
+    for i in 0..n {
+        text[i] = codes[i];
+    }
 }

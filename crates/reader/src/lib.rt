@@ -103,9 +103,12 @@ impl Word {
             Word::Number(value) => value,
             Word::Unreadable => return Word::Unreadable,
         };
-        match u16::try_from(10 * u32::from(value) + u32::from(digit)) {
-            Ok(longer) => Word::Number(longer),
-            Err(_) => Word::Unreadable,
+        let longer = value
+            .checked_mul(10)
+            .and_then(|tens| tens.checked_add(u16::from(digit)));
+        match longer {
+            Some(longer) => Word::Number(longer),
+            None => Word::Unreadable,
         }
     }
 

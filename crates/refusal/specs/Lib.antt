@@ -1,2 +1,3 @@
 pub mod Refused
+pub mod Reasons
 pub mod Checks

@@ -3,7 +3,7 @@ use Rattle.std.specs.Prelude.{ℕ, Result}
 use Rattle.refusal.specs.declared.Reason.{Reason}
 use Rattle.refusal.specs.declared.Refusal.{Refusal}
 
--- the number of document 01, or of document 02
+-- the number of document 01, or of document 02; of one that neither has, its own
 unfoldable pub number_of : Reason → ℕ
 number_of Reason.Mode = 1
 number_of Reason.LeastLead = 2
@@ -25,6 +25,7 @@ number_of Reason.Depot = 17
 number_of Reason.DepotFull = 18
 number_of Reason.AllFull = 19
 number_of Reason.Sentence = 20
+number_of (Reason.Other u) = u.number
 
 abbrev pub refused_at : Reason → ℕ → Refusal
 refused_at reason place = record { reason = reason; place = place; lead = 0 }

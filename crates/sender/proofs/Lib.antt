@@ -6,6 +6,7 @@ pub mod Calls
 pub mod PlaceCases
 pub mod Reached
 pub mod RightBlocks
+pub mod Bytes
 pub mod Filled
 pub mod Storing
 pub mod Serving

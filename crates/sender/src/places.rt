@@ -40,10 +40,12 @@ pub fn place_of(state: &[u8; SIZE], count: usize, depot: u8) -> Option<usize>
     None
 }
 
-// Moves the places after one of them up. In their part: over the whole state the same copy takes some 250 instructions more where 149 places move.
+// Moves the places after one of them up. Byte by byte: `copy_within` makes a C library that asks for `memmove`.
 pub fn remove(state: &mut [u8; SIZE], at: usize, count: usize)
     requires { (at < count) × (count ≤ 150) }
     ensures { Removed at count state.old state.new }
 {
-    state[10 * at..10 * count].copy_within(10.., 0);
+    for j in 10 * at..10 * (count - 1) {
+        state[j] = state[j + 10];
+    }
 }

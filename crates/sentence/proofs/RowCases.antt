@@ -6,6 +6,8 @@ use Rattle.std.proofs.lemmas.Bool.{ltb-true, ltb-false}
 use borrow.Author.Tests.{eq-eqb, ne_eqb}
 use Rattle.refusal.specs.declared.Reason.{Reason}
 use Rattle.refusal.specs.Refused.{refused_at}
+use Rattle.refusal.specs.Reasons.{reason_of}
+use Rattle.refusal.proofs.Numbers.{number_back}
 use Rattle.sentence.specs.declared.rows.Row.{Row as Entry}
 use Rattle.sentence.specs.Patterns.{place_mark, is_empty, has}
 use Rattle.sentence.specs.Sentences.{Row, number, pattern_in}
@@ -68,7 +70,7 @@ row_some n ps row = has_some place_mark ps row.place
 
 -- an entry as a row
 abbrev pub row_at : List Entry → ℕ → Entry → Row
-row_at table i d = record { reason = (get_or table i d).reason; pattern = (get_or table i d).pattern.now }
+row_at table i d = record { reason = reason_of (get_or table i d).number; pattern = (get_or table i d).pattern.now }
 
 goes_on : (table : List Entry) (i : ℕ) (d : Entry) → i < length table → listed (drop i table) ≡ row_at table i d ∷ listed (drop (i + 1) table)
 goes_on table i d h = rw (add-one i) (ap listed (drop-cons table i d h))
@@ -106,7 +108,7 @@ module _ (table : List Entry) (bytes : List ℕ) where
     row_pattern = top.row.pattern
 
     pub read_found : (place lead : ℕ) → Ok (place, lead) ≡ told (matched (get_or table i d).pattern.now bytes)
-        → Ok (record { reason = (get_or table i d).reason; place = place; lead = lead }) ≡ read_from (listed table) 0 bytes
+        → Ok (record { reason = reason_of (get_or table i d).number; place = place; lead = lead }) ≡ read_from (listed table) 0 bytes
     read_found place lead e =
         let t = told_whole (matched row.pattern bytes) place lead (sym e) in
         sym (from_row ∙ read_here row later best bytes t.0 ∙ (rw (t.1, t.2)))
@@ -144,12 +146,12 @@ module _ (table : List Entry) (n : ℕ) where
     from_first : pattern_in (listed table) n ≡ pattern_in (entry ∷ rest) n
     from_first = r.same ∙ ap (λ (l : List Row). pattern_in l n) (goes_on table i d h)
 
-    pub pattern_found : number entry ≡ n → IsPatternOf n (listed table) (get_or table i d).pattern.now
+    pub pattern_found : (get_or table i d).number ≡ n → IsPatternOf n (listed table) (get_or table i d).pattern.now
     unfolding pattern_in
     pattern_found e =
-        let here : pattern_in (entry ∷ rest) n ≡ entry.pattern = rw (eq-eqb (number entry) n e) in
+        let here : pattern_in (entry ∷ rest) n ≡ entry.pattern = rw (eq-eqb (number entry) n (number_back _ ∙ e)) in
         record { same = sym (from_first ∙ here); some = row_some (number entry) entry.pattern first_left.row }
 
-    pub pattern_later : (number entry ≡ n → ⊥) → PatternLeft (i + 1)
+    pub pattern_later : ((get_or table i d).number ≡ n → ⊥) → PatternLeft (i + 1)
     unfolding pattern_in
-    pattern_later e = record { sound = first_left.rest; same = from_first ∙ (rw (ne_eqb (number entry) n e)) }
+    pattern_later e = record { sound = first_left.rest; same = from_first ∙ (rw (ne_eqb (number entry) n (λ f. e (sym (number_back _) ∙ f)))) }

@@ -1,8 +1,8 @@
 -- How long patterns and sentences are, and the number that an answer carries.
 use mathlib.Core.Path.{◌≡◌, refl}
-use mathlib.Core.Bool.{Bool, true, false, cond, ◌&&◌, and-eq-true_iff}
+use mathlib.Core.Bool.{Bool, true, false, cond}
 use mathlib.Core.List.{List, [], ◌∷◌}
-use Prim.Native.Nat.{ℕ, ◌*◌, ◌<◌, ◌≤◌, ◌^◌}
+use Prim.Native.Nat.{ℕ, ◌+◌, ◌*◌, ◌<◌, ◌≤◌, ◌^◌}
 use native.Mathlib.Omega.{arith}
 use borrow.Author.Tests.{leb-true}
 use lib.Dec.{leb, eqb}
@@ -16,29 +16,27 @@ use Rattle.std.proofs.Common.{Ok, Err}
 use Rattle.refusal.specs.declared.Refusal.{Refusal}
 use Rattle.refusal.specs.Refused.{Answered}
 
--- no pattern of the rows is longer than n
-all_short : ℕ → List Row → Bool
-all_short n [] = true
-all_short n (r ∷ rs) = leb (length r.pattern) n && all_short n rs
+-- the bytes of a table of the rows, which has for each its number, the length of its pattern, and this
+table_length : List Row → ℕ
+table_length [] = 0
+table_length (r ∷ rs) = 2 + length r.pattern + table_length rs
 
-short_computed : all_short 65535 sentences ≡ true
-unfolding tab ascii row sentences all_short
-short_computed = refl
+table_computed : leb (table_length sentences) 65535 ≡ true
+unfolding tab ascii row sentences table_length
+table_computed = refl
 
-pattern_in_short : (rows : List Row) (n : ℕ) → all_short 65535 rows ≡ true → length (pattern_in rows n) ≤ 65535
-unfolding pattern_in all_short
-pattern_in_short [] n e = omega arith
-pattern_in_short (r ∷ rs) n e = by (eqb (number r) n) (pattern_in_short rs n both.1)
+pattern_in_table : (rows : List Row) (n : ℕ) → length (pattern_in rows n) ≤ table_length rows
+unfolding pattern_in table_length
+pattern_in_table [] n = omega arith
+pattern_in_table (r ∷ rs) n = by (eqb (number r) n) (pattern_in_table rs n)
   where
-    both : (leb (length r.pattern) 65535 ≡ true) × (all_short 65535 rs ≡ true)
-    both = (and-eq-true_iff (leb (length r.pattern) 65535) (all_short 65535 rs)).0 e
-
-    by : (t : Bool) → length (pattern_in rs n) ≤ 65535 → length (cond t r.pattern (pattern_in rs n)) ≤ 65535
-    by true h = leb-true (length r.pattern) 65535 both.0
-    by false h = h
+    by : (t : Bool) → length (pattern_in rs n) ≤ table_length rs
+        → length (cond t r.pattern (pattern_in rs n)) ≤ 2 + length r.pattern + table_length rs
+    by true h = omega arith
+    by false h = omega (arith, h)
 
 pub pattern_short : (n : ℕ) → length (pattern_in sentences n) ≤ 65535
-pattern_short n = pattern_in_short sentences n short_computed
+pattern_short n = omega (arith, pattern_in_table sentences n, leb-true (table_length sentences) 65535 table_computed)
 
 pub filled_short : (place lead : ℕ) → place < 2 ^ 64 → lead < 2 ^ 64 → (ps : List ℕ) → length (filled place lead ps) ≤ 20 * length ps
 unfolding filled

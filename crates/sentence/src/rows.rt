@@ -8,91 +8,91 @@ ghost use Rattle.sentence.specs.Internal.{listed, IsPatternOf};
 use super::matching;
 use refusal::{Reason, Refusal};
 
-// A reason, and its sentence with marks for the place and the lead.
+// A refusal's number, and its sentence with marks for the place and the lead. The number, since no static can hold a `Reason`.
 pub struct Row {
-    reason: Reason,
+    number: u8,
     pattern: &'static [u8],
 }
 
 const ROWS: [Row; 20] = [
     Row {
-        reason: Reason::Mode,
+        number: 1,
         pattern: b"Refusal 1: the mode is not from 1 to 8 (place #).",
     },
     Row {
-        reason: Reason::LeastLead,
+        number: 2,
         pattern: b"Refusal 2: the set lead is out of its range (place #).",
     },
     Row {
-        reason: Reason::Width,
+        number: 3,
         pattern: b"Refusal 3: the width is not 125, 250, 500, 1000 or 2000 Hz (place #).",
     },
     Row {
-        reason: Reason::Centre,
+        number: 4,
         pattern: b"Refusal 4: the centre is above 10000 Hz, or twice the centre is below the width (place #).",
     },
     Row {
-        reason: Reason::CodeCount,
+        number: 5,
         pattern: b"Refusal 5: the count of codes or of blocks is not allowed (place #).",
     },
     Row {
-        reason: Reason::Code,
+        number: 6,
         pattern: b"Refusal 6: the code or byte at place # cannot be sent.",
     },
     Row {
-        reason: Reason::ToneCount,
+        number: 7,
         pattern: b"Refusal 7: the count of tones or of weights is not allowed (place #).",
     },
     Row {
-        reason: Reason::Tone,
+        number: 8,
         pattern: b"Refusal 8: the tone at place # is neither one of the mode's nor an allowed missing mark.",
     },
     Row {
-        reason: Reason::Room,
+        number: 9,
         pattern: b"Refusal 9: the output has not the size that is needed (place #).",
     },
     Row {
-        reason: Reason::Unclear,
+        number: 10,
         pattern: b"Refusal 10: the character at place # is unclear: its lead is %.",
     },
     Row {
-        reason: Reason::Zero,
+        number: 11,
         pattern: b"Refusal 11: the text has a zero at place # that is not filling.",
     },
     Row {
-        reason: Reason::TooLong,
+        number: 12,
         pattern: b"Refusal 12: the text is too long: it goes on at place #.",
     },
     Row {
-        reason: Reason::NotFound,
+        number: 13,
         pattern: b"Refusal 13: no start in the run of tones is accepted (place #).",
     },
     Row {
-        reason: Reason::Weight,
+        number: 14,
         pattern: b"Refusal 14: the weight at place # is above 15.",
     },
     Row {
-        reason: Reason::NotFinite,
+        number: 15,
         pattern: b"Refusal 15: the measured frequency is infinite or not a number (place #).",
     },
     Row {
-        reason: Reason::OutsideBand,
+        number: 16,
         pattern: b"Refusal 16: the measured frequency lies outside the band (place #).",
     },
     Row {
-        reason: Reason::Depot,
+        number: 17,
         pattern: b"Refusal 17: the depot is not from 0 to 29 (place #).",
     },
     Row {
-        reason: Reason::DepotFull,
+        number: 18,
         pattern: b"Refusal 18: depot # has 8 blocks waiting.",
     },
     Row {
-        reason: Reason::AllFull,
+        number: 19,
         pattern: b"Refusal 19: the sender has no place left that depot # may take.",
     },
     Row {
-        reason: Reason::Sentence,
+        number: 20,
         pattern: b"Refusal 20: this is no sentence of the list from place # on.",
     },
 ];
@@ -112,7 +112,7 @@ pub fn read(rows: &[Row], bytes: &[u8]) -> Result<Refusal, Refusal>
     for row in rows {
         match matching::match_pattern(row.pattern, bytes) {
             Ok((place, lead)) => return Ok(Refusal {
-                reason: row.reason,
+                reason: Reason::from(row.number),
                 place,
                 lead,
             }),
@@ -128,7 +128,7 @@ pub fn pattern_of(rows: &[Row], number: u32) -> Option<&'static [u8]>
     ensures { MatchOption result (pattern_in (listed rows.now) number ≡ []) (λ p. IsPatternOf number (listed rows.now) p.now) }
 {
     for row in rows {
-        if u32::from(row.reason.number()) == number {
+        if u32::from(row.number) == number {
             return Some(row.pattern);
         }
     }

@@ -1,34 +1,23 @@
 -- A sentence that was written is read back.
 use mathlib.Core.Path.{◌≡◌, refl, ◌∙◌, ap}
 use mathlib.Core.Bool.{Bool, true, false, cond, not}
-use mathlib.Core.List.{List, [], ◌∷◌}
+use mathlib.Core.List.{List}
 use Prim.Native.Nat.{ℕ}
-use borrow.Author.Tests.{eqb-true}
 use Rattle.std.proofs.Common.{Ok, Err}
-use lib.Dec.{ltb, eqb}
+use lib.Dec.{ltb}
 use lib.ListN.{length, take}
 use Rattle.lists.proofs.Fronts.{take_over}
 use Rattle.refusal.specs.declared.Reason.{Reason}
 use Rattle.refusal.specs.declared.Refusal.{Refusal}
 use Rattle.refusal.specs.Refused.{Answered, number_of, refused_at}
-use Rattle.sentence.specs.Patterns.{filled, is_empty, shows}
-use Rattle.sentence.specs.Sentences.{Row, number, sentences, pattern_in, is_known_in, sentence_in, is_known, sentence_of}
+use Rattle.refusal.specs.Reasons.{reason_of}
+use Rattle.refusal.proofs.Numbers.{number_back}
+use Rattle.sentence.specs.Patterns.{filled, shows}
+use Rattle.sentence.specs.Sentences.{sentences, pattern_in, is_known_in, sentence_in, is_known, sentence_of}
 use Rattle.sentence.specs.Reading.{read_sentence}
 use Rattle.sentence.specs.Writing.{write_pattern, text_into, pattern_into, write_sentence, sentence_into}
 use Rattle.sentence_laws.specs.Laws.{RoundTrip}
-use Rattle.sentence_laws.proofs.KnownRows.{shown}
 use Rattle.sentence_laws.proofs.Sentences.{back}
-
--- a number that has a row is that of a reason
-reason_in : (rows : List Row) (n : ℕ) → is_empty (pattern_in rows n) ≡ false → (reason : Reason) × (number_of reason ≡ n)
-unfolding pattern_in is_empty
-reason_in [] n e = absurd cc
-reason_in (r ∷ rs) n e = by (eqb (number r) n) refl e (reason_in rs n)
-  where
-    by : (t : Bool) → eqb (number r) n ≡ t → is_empty (cond t r.pattern (pattern_in rs n)) ≡ false
-        → (is_empty (pattern_in rs n) ≡ false → (reason : Reason) × (number_of reason ≡ n)) → (reason : Reason) × (number_of reason ≡ n)
-    by true f g later = (r.reason, eqb-true (number r) n f)
-    by false f g later = later g
 
 -- a length is answered only where the pattern shows place and lead, and it is the text's
 written_known : (text : List ℕ) (n : ℕ) (known short : Bool)
@@ -70,8 +59,7 @@ module _ (n place lead : ℕ) (out : List ℕ) (size : ℕ) (e : write_sentence 
 
   written_back : (reason : Reason) × (number_of reason ≡ n)
       × (read_sentence (take size (sentence_into n place lead out)) ≡ Ok (record { reason = reason; place = place; lead = lead }))
-  written_back =
-      let (reason, numbered) = reason_in sentences n (shown pattern place lead known_length.0).some in (reason, numbered, read_back reason numbered)
+  written_back = (reason_of n, number_back n, read_back (reason_of n) (number_back n))
 
 pub round_trip : RoundTrip
 round_trip = record { back = written_back }

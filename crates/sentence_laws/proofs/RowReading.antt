@@ -4,12 +4,9 @@ use mathlib.Core.Bool.{Bool, true, false, cond}
 use mathlib.Core.List.{List, [], ◌∷◌}
 use Prim.Native.Nat.{ℕ, ◌≤◌, max}
 use native.Mathlib.Omega.{arith}
-use denote.Enum.Bare.{tag_one}
-use Rattle.refusal.specs.declared.Reason.{Reason}
-use Rattle.refusal.specs.contracts.Reason.{the_type}
 use Rattle.refusal.specs.declared.Refusal.{Refusal}
 use Rattle.refusal.specs.Refused.{number_of}
-use Rattle.refusal.proofs.Numbers.{numbered}
+use Rattle.refusal.proofs.Numbers.{reason_unique}
 use Rattle.sentence.specs.Patterns.{lead_mark, most_place, most_lead, filled, has, most_lead_of}
 use Rattle.sentence.specs.Sentences.{Row, number, pattern_in, sentence_in}
 use Rattle.sentence.specs.Condition.{are_sound}
@@ -21,11 +18,6 @@ use Rattle.sentence_laws.proofs.Parting.{parted_not_whole}
 use Rattle.sentence_laws.proofs.SoundRows.{apart_from}
 use Rattle.sentence_laws.proofs.KnownRows.{Known, none_known, Where, known_where, known_later, sentence_later, found_known, found_sentence}
 use Rattle.std.proofs.Common.{Ok}
-
--- ---- no two reasons have one number
-
-same_reason : (a b : Reason) → number_of a ≡ number_of b → a ≡ b
-same_reason a b e = tag_one the_type tt a b (omega (arith, numbered a, numbered b))
 
 -- ---- leads
 
@@ -57,7 +49,7 @@ found_own r x bytes row numbered place lead text =
     let whole = ap (matched r.pattern) text ∙ match_whole x.place x.lead place small r.pattern row.pattern in
     let p : (matched r.pattern bytes).place ≡ x.place = ap (λ (m : Match). m.place) whole ∙ (rw row.place) in
     let l : (matched r.pattern bytes).lead ≡ x.lead = ap (λ (m : Match). m.lead) whole ∙ lead_shown r.pattern x.lead lead in
-    (ap (λ (m : Match). m.whole) whole, rw (same_reason r.reason x.reason numbered, p, l))
+    (ap (λ (m : Match). m.whole) whole, rw (reason_unique r.reason x.reason numbered, p, l))
 
 pub sentence_read : (rows : List Row) → are_sound rows ≡ true → (x : Refusal) → Known rows x → (best : ℕ) (bytes : List ℕ) → bytes ≡ sentence_in rows x
     → read_from rows best bytes ≡ Ok x

@@ -21,22 +21,22 @@ abbrev pub told_in : ℕ → Said → Progress
 told_in room s = record { listing = s.next; written = length (fitting s.text room) }
 
 -- nothing of a line is read
-abbrev pub before_line : Stage → Listing
-before_line stage = record { stage = stage; line = fresh }
+abbrev pub before_line : Stage → ℕ → ℕ → ℕ → Listing
+before_line stage b m k = record { stage = stage; mode = b; least_lead = m; blocks = k; line = fresh }
 
 abbrev pub begun : Listing
-begun = before_line Settings
+begun = before_line Settings 0 0 0
 
 -- before the line of block k
 abbrev pub hearing : ℕ → ℕ → ℕ → Listing
-hearing b m k = before_line (Blocks b m k)
+hearing b m k = before_line Blocks b m k
 
 abbrev pub stopped : Listing
-stopped = before_line Stopped
+stopped = before_line Stopped 0 0 0
 
 abbrev pub is_stopped : Stage → Bool
 is_stopped Settings = false
-is_stopped (Blocks b m k) = false
+is_stopped Blocks = false
 is_stopped Stopped = true
 
 -- the last text
@@ -44,7 +44,7 @@ abbrev pub stops : List ℕ → Said
 stops text = record { text = text; next = stopped }
 
 -- what is printed after the last line
-unfoldable pub ending_text : Stage → List ℕ
-ending_text Settings = unreadable_text 1
-ending_text (Blocks b m k) = end_text k
-ending_text Stopped = []
+unfoldable pub ending_text : Stage → ℕ → List ℕ
+ending_text Settings k = unreadable_text 1
+ending_text Blocks k = end_text k
+ending_text Stopped k = []

@@ -8,22 +8,21 @@ ghost use Rattle.stages.specs.Stages.{told, before_line, begun, stopped, is_stop
 
 use reader::{Line, Word};
 
-// How far the input is read: the line of mode and set lead, the lines of blocks, or nothing more. `blocks` counts the blocks so far.
+// How far the input is read: the line of mode and set lead, the lines of blocks, or nothing more.
 #[derive(Clone, Copy)]
 pub enum Stage {
     Settings,
-    Blocks {
-        mode: u32,
-        least_lead: u32,
-        blocks: u64,
-    },
+    Blocks,
     Stopped,
 }
 
-// The state of a listing: its stage, and the line as far as it is read.
+// The state of a listing: its stage, the mode and set lead of its blocks, how many there were so far, and the line as far as it is read.
 #[derive(Clone, Copy)]
 pub struct Listing {
     pub stage: Stage,
+    pub mode: u32,
+    pub least_lead: u32,
+    pub blocks: u64,
     pub line: Line,
 }
 
@@ -47,7 +46,7 @@ pub fn begin(out: &mut [u8; OUTPUT]) -> Progress
     ensures output { out.new ≡ over heading out.old }
 {
     let written = put_heading(out);
-    before_line(Stage::Settings, written)
+    before_line(Stage::Settings, 0, 0, 0, written)
 }
 
 fn put_heading(out: &mut [u8; OUTPUT]) -> usize
@@ -60,12 +59,12 @@ fn put_heading(out: &mut [u8; OUTPUT]) -> usize
 // The text after the last line, if the output has room for any text.
 #[tactic(auto, unfolding(crate::specs::Stages::ending_text))]
 pub fn finish(listing: Listing, out: &mut [u8]) -> usize
-    ensures answer { result ≡ length (fitting (ending_text listing.stage) (length out.old)) }
-    ensures output { out.new ≡ over (fitting (ending_text listing.stage) (length out.old)) out.old }
+    ensures answer { result ≡ length (fitting (ending_text listing.stage listing.blocks) (length out.old)) }
+    ensures output { out.new ≡ over (fitting (ending_text listing.stage listing.blocks) (length out.old)) out.old }
 {
     match listing.stage {
         Stage::Settings => report::put_unreadable(1, out),
-        Stage::Blocks { blocks, .. } => report::put_end(blocks, out),
+        Stage::Blocks => report::put_end(listing.blocks, out),
         Stage::Stopped => 0,
     }
 }
@@ -81,16 +80,25 @@ pub fn is_stopped(listing: Listing) -> bool
 pub fn stopped(written: usize) -> Progress
     ensures { result ≡ record { listing = stopped; written = written } }
 {
-    before_line(Stage::Stopped, written)
+    before_line(Stage::Stopped, 0, 0, 0, written)
 }
 
 // The state before a line.
-pub fn before_line(stage: Stage, written: usize) -> Progress
-    ensures { result ≡ record { listing = before_line stage; written = written } }
+pub fn before_line(
+    stage: Stage,
+    mode: u32,
+    least_lead: u32,
+    blocks: u64,
+    written: usize,
+) -> Progress
+    ensures { result ≡ record { listing = before_line stage mode least_lead blocks; written = written } }
 {
     Progress {
         listing: Listing {
             stage,
+            mode,
+            least_lead,
+            blocks,
             line: Line {
                 word: Word::Empty,
                 count: 0,

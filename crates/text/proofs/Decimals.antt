@@ -1,5 +1,5 @@
 -- A number in decimal: its last digit after those of its tenth, and how many there are; the length with a sign, and of a field.
-use mathlib.Core.Path.{◌≡◌, refl, sym, ◌∙◌, ap}
+use mathlib.Core.Path.{◌≡◌, sym, ◌∙◌, ap}
 use mathlib.Core.List.{List, [], ◌∷◌, ◌++◌}
 use Prim.Native.Nat.{ℕ, zero, suc, ◌+◌, ◌*◌, ◌<◌, ◌≤◌, ◌/◌, ◌%◌, ◌^◌}
 use native.Mathlib.Decide.{dec_lt}
@@ -52,13 +52,16 @@ decimal_length (suc k) n h = by (decimal_length k (n / 10)) (dec_lt n 10)
     by r (yes l) = omega (arith, ap length (decimal_small n l))
     by r (no l) = omega (arith, decimal_more_length n (omega arith), r (omega (arith, pow-suc 10 (suc k))))
 
--- and a number from 10 ^ k up has no fewer than k + 1
-decimal_length_from : (k n : ℕ) → 10 ^ k ≤ n → suc k ≤ length (decimal n)
-decimal_length_from zero n h = by (dec_lt n 10)
+pub decimal_some : (n : ℕ) → 1 ≤ length (decimal n)
+decimal_some n = by (dec_lt n 10)
   where
     by : Dec (n < 10) → 1 ≤ length (decimal n)
     by (yes l) = omega (arith, ap length (decimal_small n l))
     by (no l) = omega (arith, decimal_more_length n (omega arith))
+
+-- and a number from 10 ^ k up has no fewer than k + 1
+decimal_length_from : (k n : ℕ) → 10 ^ k ≤ n → suc k ≤ length (decimal n)
+decimal_length_from zero n h = decimal_some n
 decimal_length_from (suc k) n h =
     let tens : 10 ≤ n = omega (arith, pow-suc 10 k, one-le-pow k 10 (omega arith)) in
     omega (arith, decimal_more_length n tens, decimal_length_from k (n / 10) (omega (arith, pow-suc 10 k)))
@@ -66,45 +69,6 @@ decimal_length_from (suc k) n h =
 -- so its logarithm tells their count
 pub decimal_length_log : (k n : ℕ) → 10 ^ k ≤ n → n < 10 * 10 ^ k → length (decimal n) ≡ k + 1
 decimal_length_log k n low high = omega (arith, decimal_length_from k n low, decimal_length k n (omega (arith, pow-suc 10 k)))
-
--- no more of them are asked for than there are
-pub digits_whole : (n : ℕ) → digits (length (decimal n)) n ≡ decimal n
-unfolding decimal
-digits_whole n = all (suc n) n (omega arith)
-  where
-    all : (f m : ℕ) → m < f → digits (length (digits f m)) m ≡ digits f m
-    all zero m h = absurd (omega arith)
-    all (suc f) m h = by (all f (m / 10)) (dec_lt m 10)
-      where
-        by : (m / 10 < f → digits (length (digits f (m / 10))) (m / 10) ≡ digits f (m / 10)) → Dec (m < 10) → digits (length (digits (suc f) m)) m ≡ digits (suc f) m
-        by r (yes l) = rw (digits_small f m l) (digits_small 0 m l)
-        by r (no l) =
-            let more = digits_more f m (omega arith) in
-            let size : length (digits (suc f) m) ≡ suc (length (digits f (m / 10))) = omega (arith, ap length more, length-append (digits f (m / 10)) ((48 + m % 10) ∷ [])) in
-            rw size
-            (digits_more (length (digits f (m / 10))) m (omega arith)
-            ∙ ap (λ (x : List ℕ). x ++ ((48 + m % 10) ∷ [])) (r (omega arith))
-            ∙ sym more)
-
-digits_none : (c n : ℕ) → c ≡ 0 → digits c n ≡ []
-unfolding digits
-digits_none c n e = rw e refl
-
--- the last of c + 1 digits, where so many are asked for as there are
-pub digits_last : (c n : ℕ) → length (digits (suc c) n) ≡ suc c
-    → (digits (suc c) n ≡ digits c (n / 10) ++ ((48 + n % 10) ∷ [])) × (length (digits c (n / 10)) ≡ c)
-digits_last c n h = by (dec_lt n 10)
-  where
-    by : Dec (n < 10) → (digits (suc c) n ≡ digits c (n / 10) ++ ((48 + n % 10) ∷ [])) × (length (digits c (n / 10)) ≡ c)
-    by (yes l) =
-        let small = digits_small c n l in
-        let none : c ≡ 0 = omega (arith, ap length small) in
-        let same : n % 10 ≡ n = omega arith in
-        let empty = digits_none c (n / 10) none in
-        rw (small, same, empty) (refl, sym none)
-    by (no l) =
-        let more = digits_more c n (omega arith) in
-        (more, omega (arith, ap length more, length-append (digits c (n / 10)) ((48 + n % 10) ∷ [])))
 
 pub decimal_short : (n : ℕ) → n < 2 ^ 64 → length (decimal n) ≤ 20
 decimal_short n h = decimal_length 19 n (omega arith)

@@ -3,10 +3,10 @@ use mathlib.Core.Path.{◌≡◌, sym, ◌∙◌, ap}
 use mathlib.Core.List.{List, [], ◌∷◌, ◌++◌, append_assoc}
 use Prim.Native.Nat.{ℕ, suc, ◌+◌, ◌-◌, ◌<◌, ◌≤◌, ◌/◌, ◌%◌}
 use native.Mathlib.Omega.{arith}
-use lib.ListN.{length, set, take, drop}
+use lib.ListN.{length, set, take, drop, take-append-drop, length-drop, length-set}
 use lib.Seq.{lt-length-set, drop-cons, get_or-set_same, drop-set-lt, take-set-le, take-take}
-use Rattle.text.specs.Decimal.{digits}
-use Rattle.text.proofs.Decimals.{digits_last}
+use Rattle.text.specs.Decimal.{decimal}
+use Rattle.text.proofs.Decimals.{decimal_small, decimal_more}
 
 module _ (text : List ℕ) (from : ℕ) (some : 0 < from) (within : from ≤ length text) where
   one_before : (v : ℕ) → drop (from - 1) (set text (from - 1) v) ≡ v ∷ drop from text
@@ -23,10 +23,30 @@ module _ (text : List ℕ) (from : ℕ) (some : 0 < from) (within : from ≤ len
       ∙ ap (take (from - 1)) e
       ∙ take-take (from - 1) from start (omega arith)
 
-  pub digit_put : (all : List ℕ) (c left : ℕ) → length (digits (suc c) left) ≡ suc c → all ≡ digits (suc c) left ++ drop from text
-      → all ≡ digits c (left / 10) ++ drop (from - 1) (set text (from - 1) (48 + left % 10))
-  digit_put all c left count made =
-      made
-      ∙ ap (λ (x : List ℕ). x ++ drop from text) (digits_last c left count).0
-      ∙ append_assoc (digits c (left / 10)) ((48 + left % 10) ∷ []) (drop from text)
-      ∙ ap (λ (x : List ℕ). digits c (left / 10) ++ x) (sym (one_before (48 + left % 10)))
+  module _ (all : List ℕ) (left : ℕ) (made : all ≡ decimal left ++ drop from text) where
+    pub digit_more : 10 ≤ left → all ≡ decimal (left / 10) ++ drop (from - 1) (set text (from - 1) (48 + left % 10))
+    digit_more h =
+        made
+        ∙ ap (λ (x : List ℕ). x ++ drop from text) (decimal_more left h)
+        ∙ append_assoc (decimal (left / 10)) ((48 + left % 10) ∷ []) (drop from text)
+        ∙ ap (λ (x : List ℕ). decimal (left / 10) ++ x) (sym (one_before (48 + left % 10)))
+
+    module _ (h : left < 10) where
+      digit_first : drop (from - 1) (set text (from - 1) (48 + left)) ≡ all
+      digit_first = one_before (48 + left) ∙ sym (made ∙ ap (λ (x : List ℕ). x ++ drop from text) (decimal_small left h))
+
+      pub first_place : from - 1 + length all ≡ length text
+      first_place =
+          omega (
+            arith,
+            ap length digit_first,
+            length-drop (from - 1) (set text (from - 1) (48 + left)),
+            length-set text (from - 1) (48 + left),
+          )
+
+      pub ended : (start : List ℕ) → take from text ≡ take from start → set text (from - 1) (48 + left) ≡ take (from - 1) start ++ all
+      ended start e =
+          let text' = set text (from - 1) (48 + left) in
+          sym (take-append-drop (from - 1) text')
+          ∙ ap (λ (x : List ℕ). x ++ drop (from - 1) text') (front_kept start e (48 + left))
+          ∙ ap (λ (x : List ℕ). take (from - 1) start ++ x) digit_first

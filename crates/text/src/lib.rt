@@ -29,19 +29,23 @@ pub fn put_text(text: &[u8], out: &mut [u8]) -> usize
     text.len()
 }
 
-// The digits of a number, from the last to the first, put before a place of a text. The answer is where they begin.
+// The digits of a number, from the last to the first, put before a place of a text. The answer is where they begin: in one of the turns, since
+// no number of 64 bits has more than 20 digits.
 fn put_before(n: u64, place: usize, text: &mut [u8]) -> usize
     requires { (20 ≤ place) × (place ≤ length text.old) }
     ensures answer { result + length (decimal n) ≡ place }
     ensures output { text.new ≡ take result text.old ++ (decimal n ++ drop place text.old) }
 {
-    let from = place - decimal_length(n);
     let mut left = n;
-    for at in (from..place).rev() {
+    for at in (0..place).rev() {
+        if left < 10 {
+            text[at] = b'0' + left as u8;
+            return at;
+        }
         text[at] = b'0' + (left % 10) as u8;
         left /= 10;
     }
-    from
+    0
 }
 
 // The count of a number's digits.

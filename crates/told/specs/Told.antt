@@ -1,7 +1,6 @@
 -- What C is told of each answer (include/olivia.h).
 use Rattle.std.specs.Prelude.{List, ℕ, get_or, Ok, Err, Option, Some, None}
 use Rattle.lists.specs.Lists.{tab}
-use Rattle.refusal.specs.declared.Reason.{Reason}
 use Rattle.refusal.specs.declared.Refusal.{Refusal}
 use Rattle.decision.specs.Decision.{none}
 use Rattle.decision.specs.declared.Character.{Character}
@@ -10,6 +9,7 @@ use Rattle.finder.specs.Stretch.{start_of}
 use Rattle.finder.specs.declared.BlockFound.{BlockFound}
 use Rattle.energy.specs.declared.Energies.{Energies}
 use Rattle.scaled.specs.Exact.{scaled}
+use Rattle.band.specs.Locating.{refusal_of}
 use Rattle.band.specs.declared.Located.{Located}
 use Rattle.band.specs.declared.Located.TheVariants as located
 use Rattle.sender.specs.declared.Served.{Served}
@@ -21,7 +21,7 @@ use Rattle.told.specs.declared.EnergiesAnswer.{EnergiesAnswer}
 use Rattle.told.specs.declared.LocatedAnswer.{LocatedAnswer}
 use Rattle.told.specs.declared.SentAnswer.{SentAnswer}
 use Rattle.told.specs.declared.ReadAnswer.{ReadAnswer}
-use Rattle.refusal.specs.Refused.{Answered, number_of, refused_at}
+use Rattle.refusal.specs.Refused.{Answered, number_of}
 
 -- number 0: accepted, with the count of tones, codes or bytes written
 abbrev pub accepted_told : ℕ → Answer
@@ -72,12 +72,17 @@ energies_told e = sums_told e.sums e.answer
 abbrev pub nowhere_told : Refusal → LocatedAnswer
 nowhere_told r = record { number = number_of r.reason; place = r.place; tone = 0; hertz_off = scaled 0 }
 
+-- by the refusal that `band` says a case is; every case but a tone is one
+abbrev pub unheard_told : Option Refusal → LocatedAnswer
+unheard_told (Some r) = nowhere_told r
+unheard_told None = record { number = 0; place = 0; tone = 0; hertz_off = scaled 0 }
+
 -- number 0: the tone, and its distance
 abbrev pub located_told : Located → LocatedAnswer
 located_told (located.Heard n off) = record { number = 0; place = 0; tone = n; hertz_off = off }
-located_told located.NotFinite = nowhere_told (refused_at Reason.NotFinite 0)
-located_told located.OutsideBand = nowhere_told (refused_at Reason.OutsideBand 0)
-located_told (located.Refused r) = nowhere_told r
+located_told located.NotFinite = unheard_told (refusal_of located.NotFinite)
+located_told located.OutsideBand = unheard_told (refusal_of located.OutsideBand)
+located_told (located.Refused r) = unheard_told (refusal_of (located.Refused r))
 
 -- a block that is handed in writes nothing yet
 abbrev pub handed_told : Answered Unit → Answer

@@ -7,6 +7,10 @@ use Rattle.chain.specs.Chain.{missing_mark}
 use Rattle.tone_range.specs.Range.{HasTones, bad_tone, first_bad_tone}
 
 module _ (limit : ℕ) (tones : List ℕ) where
+  pub tones_most : first_bad_tone limit tones ≤ length tones
+  unfolding first_bad_tone
+  tones_most = (first_is (bad_tone limit tones) (length tones)).within
+
   pub tones_good : length tones ≤ first_bad_tone limit tones → (t : ℕ) → t < length tones → bad_tone limit tones t ≡ false
   unfolding first_bad_tone
   tones_good h t l = (first_is (bad_tone limit tones) (length tones)).lowest t (omega arith)

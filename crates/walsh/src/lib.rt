@@ -42,7 +42,8 @@ fn sum_of_squares(correlations: [i32; 64]) -> u32
     ensures { result ≡ energy (at correlations) }
 {
     let mut sum: u32 = 0;
-    for correlation in correlations {
+    for word in 0..64 {
+        let correlation = correlations[word];
         sum += (correlation * correlation) as u32;
     }
     sum

@@ -9,6 +9,7 @@ use Rattle.refusal.proofs.Limits.{mode_range, mode_tones}
 use Rattle.refusal.proofs.Checked.{mode_passed, mode_refused, lead_passed, lead_refused}
 use Rattle.decision.specs.declared.Character.{Character}
 use Rattle.tone_range.specs.Range.{first_bad_tone}
+use Rattle.tone_range.proofs.Ranges.{tones_most}
 use Rattle.weight_range.specs.Range.{HasWeights, first_bad_weight}
 use Rattle.weight_range.proofs.Ranges.{in_range_weights, fewer_weights}
 use Rattle.chain.proofs.Values.{mode_values}
@@ -87,7 +88,7 @@ range : (c : After-look) → let a = c.args in c.look.result ≡ found 64 (first
 range c =
     let a = c.args in
     c.look.ensures.place
-    ∙ ap (λ (n : ℕ). found 64 (first_bad_tone n c.in-Some.tones.now)) (c.tone_count.ensures ∙ mode_tones a.mode (settings c).mode)
+    ∙ ap (λ (n : ℕ). found 64 (first_bad_tone n c.in-Some.tones.now)) (omega (arith, c.tone_count.ensures, mode_tones a.mode (settings c).mode))
     ∙ ap (λ (x : List ℕ). found 64 (first_bad_tone (2 ^ a.mode) x)) c.in-Some.ensures.cases.same
 
 pub returns-in-Some-look : goal.returns-in-Some-look
@@ -115,7 +116,9 @@ returns c =
     let light = found_none _ _ (sym c.first_bad_weight.ensures ∙ c.in_default-first_bad_weight.is) in
     let same = ap (first_bad_weight a.greatest) c.in-Some-as_array.ensures.cases.same in
     let few : HasWeights 15 a.weights.now = fewer_weights _ _ 15 c.requires (in_range_weights _ _ p.weighed (omega (arith, light, same))) in
-    let seen = c.look.ensures.symbols c.in_default-look.is ∙ ap (λ (x : List ℕ). seen_to x 64) c.in-Some.ensures.cases.same in
+    let first = ap₂ first_bad_tone (omega (arith, c.tone_count.ensures, mode_tones a.mode p.mode)) c.in-Some.ensures.cases.same in
+    let whole : first_bad_tone (2 ^ a.mode) a.tones.now ≡ 64 = omega (arith, good, tones_most (2 ^ a.mode) a.tones.now, p.count) in
+    let seen = c.look.ensures.symbols ∙ ap₂ seen_to c.in-Some.ensures.cases.same (first ∙ whole) in
     let heard = c.heard_weights-heard.ensures ∙ ap₂ heard_weights c.in-Some.ensures.cases.same c.in-Some-as_array.ensures.cases.same in
     ap Ok (seen_found a.tones.now a.weights.now few a.mode p.mode _ (c.values-values.ensures ∙ mode_values _ p.mode) _ _ _ seen heard c.decide.ensures)
     ∙ sym (hears _ _ _ _ _ _ p good (omega (arith, light, same)))

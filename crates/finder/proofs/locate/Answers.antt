@@ -1,5 +1,6 @@
 use Rattle.std.proofs.Common.{rules, ◌≡◌, sym, ◌∙◌, ap, ap₂, ℕ, ◌<◌, ◌^◌, length, Result, Err, arith}
 use Rattle.std.specs.Option.{ok_or}
+use Rattle.std.proofs.lemmas.Grind.{common_steps}
 use Rattle.lists.specs.Found.{found}
 use Rattle.lists.proofs.Found.{found_some, found_none}
 use Rattle.refusal.specs.Refused.{refused_at}
@@ -9,9 +10,8 @@ use Rattle.refusal.proofs.Limits.{within_range, mode_tones}
 use Rattle.refusal.proofs.Checked.{mode_passed, mode_refused, lead_passed, lead_refused}
 use Rattle.tone_range.specs.Range.{first_bad_tone, range_of}
 use Rattle.tone_range.proofs.Looks.{bad_found}
-use Rattle.search.specs.Starts.{longest_run, starts}
-use Rattle.finder.specs.Finding.{first_start}
-use Rattle.finder.proofs.Starts.{search_finds}
+use Rattle.search.specs.Starts.{longest_run}
+use Rattle.finder.proofs.Starts.{finds_first_start}
 use Rattle.finder.proofs.FindCases.{Passed, refuses_mode, refuses_lead, refuses_count, refuses_room, refuses_tone, tells}
 use Rattle.finder.proofs.locate.Goals as goal
 use Rattle.finder.proofs.locate.Goals.{After-check-range}
@@ -67,10 +67,8 @@ returns-in-Some c =
 
 pub returns : goal.returns
 returns c =
-    let a = c.args in
     let place = (goal.at.returns c).After-check-range in
     let p = passed place in
     let good = found_none _ _ (sym (range place) ∙ c.in_default.is) in
-    let start : c.first_accepted-start.result ≡ found (starts a.run.now) (first_start a.mode a.least_lead a.run.now a.room) =
-    c.first_accepted-start.ensures ∙ ap (found (starts a.run.now)) (search_finds _ _ _ good _ p.settings p.fits (within_range 64 longest_run _ p.count).1) in
+    let start = c.first_accepted-start.ensures ∙ finds_first_start _ _ _ good _ p.settings p.fits (within_range 64 longest_run _ p.count).1 _ (search (arith, common_steps)) in
     c.ok_or.ensures.value ∙ ap₂ ok_or start c.at-2.ensures ∙ tells _ _ _ _ p good

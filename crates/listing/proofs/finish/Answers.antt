@@ -8,8 +8,9 @@ use lib.Seq.{length-take-le, length_front}
 use Rattle.text.proofs.Puts.{Put, put_as}
 use Rattle.report.proofs.Puts.{put_roomy}
 use Rattle.stages.specs.declared.Progress.{Progress}
-use Rattle.stages.specs.Stages.{stopped, ending_text}
+use Rattle.stages.specs.Stages.{stopped}
 use Rattle.listing.specs.Steps.{last_line, and_then, ended}
+use Rattle.listing.proofs.LastLine.{end_said}
 use Rattle.listing.proofs.Parts.{put_front, put_part, put_within_part}
 use Rattle.listing.proofs.Pieces.{said_within}
 use Rattle.listing.proofs.finish.Goals as goal
@@ -45,8 +46,7 @@ module _ (c : After-finish-ending) (h : c.last_line-last.result.written + 1024 �
   abbrev rest : List ℕ
   rest = drop c.last_line-last.result.written (c.last_line-last.new.out ++ drop 1024 c.args.out.now)
 
-  ending : let after = c.last_line-last.result.listing in
-      Put (ending_text after.stage) (take size rest) c.finish-ending.result c.finish-ending.new.out
+  ending : Put (end_said c.last_line-last.result.listing) (take size rest) c.finish-ending.result c.finish-ending.new.out
   ending =
       let told = c.finish-ending.ensures in
       let front = c.last_line-last.new.out ++ drop 1024 c.args.out.now in
@@ -68,7 +68,7 @@ returns c =
     let last = c.last_line-last in
     let front = put_front _ _ 1024 (ap (λ (x : Progress). x.written) last.ensures.answer, last.ensures.output) last.auto.out in
     let said = last_line c.args.listing c.args.tones.now in
-    let texts = ap (λ (x : Progress). said.text ++ ending_text x.listing.stage) (sym last.ensures.answer) in
+    let texts = ap (λ (x : Progress). said.text ++ end_said x.listing) (sym last.ensures.answer) in
     let all = put_as c.args.out.now texts (put_part _ _ _ front _ (size put room) (ending put room) c.finish-ending.auto.out) in
     let told = c.stopped.ensures ∙ ap (λ (n : ℕ). record { listing = stopped; written = n }) all.0 in
     record { answer = told; kept = last.ensures.kept; output = all.1 }

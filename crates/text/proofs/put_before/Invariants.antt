@@ -1,16 +1,16 @@
--- Before each turn the text is as it was before place `at`, and there end the number's digits that are still to be put.
+-- Before each turn the text is as it was before place `at`, and what stands from there on follows the digits of what is left.
 use mathlib.Core.Path.{◌≡◌}
 use mathlib.Core.List.{◌++◌}
-use Prim.Native.Nat.{◌-◌, ◌≤◌}
+use Prim.Native.Nat.{◌≤◌}
 use lib.ListN.{length, take, drop}
-use Rattle.text.specs.Decimal.{digits, decimal}
+use Rattle.text.specs.Decimal.{decimal}
 use Rattle.text.proofs.put_before.Given as goal
 
 abbrev pub invariant-loop-at : goal.invariant-loop-at
 invariant-loop-at l = record {
-  from : l.from ≤ l.at;
+  within : l.at ≤ l.place;
   room : length l.text ≡ length l.initial.text;
-  count : length (digits (l.at - l.from) l.left) ≡ l.at - l.from;
+  fits : length (decimal l.left) ≤ l.at;
   front : take l.at l.text ≡ take l.at l.initial.text;
-  made : decimal l.n ++ drop l.place l.initial.text ≡ digits (l.at - l.from) l.left ++ drop l.at l.text;
+  made : decimal l.n ++ drop l.place l.initial.text ≡ decimal l.left ++ drop l.at l.text;
 }

@@ -6,13 +6,13 @@ use Rattle.walsh.specs.Energy.{energy}
 use Rattle.walsh.proofs.Energies.{Next, next}
 use Rattle.walsh.proofs.sum_of_squares.Goals as goal
 
-pub loop-correlation-init : goal.loop-correlation-init
+pub loop-word-init : goal.loop-word-init
 unfolding total
-loop-correlation-init c = refl
+loop-word-init c = refl
 
 -- what the next correlation adds
-added : (c : goal.After-correlation-1) → Next (at c.args.correlations) c.loop-correlation.correlation-index
-added c = next (at c.args.correlations) c.loop-correlation.correlation-index c.loop-correlation-test.true c.requires
+added : (c : goal.After-correlation-1) → Next (at c.args.correlations) c.loop-word.word
+added c = next (at c.args.correlations) c.loop-word.word (omega (arith, c.loop-word-test.true)) c.requires
 
 pub overflow_mul-sum : goal.overflow_mul-sum
 overflow_mul-sum c = (added c).fits
@@ -21,13 +21,13 @@ pub overflow_cast-sum : goal.overflow_cast-sum
 overflow_cast-sum c = rw (added c).value (tt, omega (arith, (added c).small))
 
 pub overflow_add-sum : goal.overflow_add-sum
-overflow_add-sum c = rw (added c).value (omega (arith, (added c).small, c.loop-correlation.invariant))
+overflow_add-sum c = rw (added c).value (omega (arith, (added c).small, c.loop-word.invariant))
 
-pub loop-correlation-preserved : goal.loop-correlation-preserved
-loop-correlation-preserved c = rw (added c).value (omega (arith, (added c).more, c.loop-correlation.invariant))
+pub loop-word-preserved : goal.loop-word-preserved
+loop-word-preserved c = rw (added c).value (omega (arith, (added c).more, c.loop-word.invariant))
 
 pub returns : goal.returns
 unfolding energy
 returns c =
-    let done : c.loop-correlation.correlation-index ≡ 64 = omega arith in
-    rw done at c.loop-correlation.invariant
+    let done : c.loop-word.word ≡ 64 = omega arith in
+    rw done at c.loop-word.invariant

@@ -4,5 +4,5 @@ use Rattle.lists.specs.Sums.{total}
 use Rattle.walsh.specs.Energy.{square}
 use Rattle.walsh.proofs.sum_of_squares.Given as goal
 
-abbrev pub invariant-loop-correlation : goal.invariant-loop-correlation
-invariant-loop-correlation l = l.sum ≡ total l.correlation-index (λ c. square (at l.correlation-items c))
+abbrev pub invariant-loop-word : goal.invariant-loop-word
+invariant-loop-word l = l.sum ≡ total l.word (λ c. square (at l.correlations c))

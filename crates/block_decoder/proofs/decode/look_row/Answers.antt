@@ -17,6 +17,14 @@ returns-then-tone-clause-place c =
     let hit = sym l.invariant.0 ∙ scan_hit (bad_tone a.limit a.tones.now) l.t _ c.loop-t-test.true here in
     sym (ap (found (a.from + 16)) hit ∙ found_at (a.from + 16) l.t c.loop-t-test.true)
 
+pub returns-then-tone-clause-symbols : goal.returns-then-tone-clause-symbols
+returns-then-tone-clause-symbols c =
+    let l = c.loop-t in
+    let a = c.args in
+    let here = bad_tone_lem a.limit _ c.if-tone-limit.false c.if-tone.true in
+    let hit = sym l.invariant.0 ∙ scan_hit (bad_tone a.limit a.tones.now) l.t _ c.loop-t-test.true here in
+    l.invariant.1 ∙ ap (seen_to a.tones.now) (sym hit)
+
 -- a tone that is passed over is in range, and its symbol is put down
 passed : (c : Joined-tone-limit) → let a = c.args in bad_tone a.limit a.tones.now c.loop-t.t ≡ false
 passed c = good_tone _ _ (elim c.if-tone-limit.branch [ then-tone-limit w ↦ inl w.if-tone-limit.true | else-tone-limit+else-tone w ↦ inr w.if-tone.false ])
@@ -43,3 +51,10 @@ returns-clause-place c =
     let a = c.args in
     let none = sym l.invariant.0 ∙ scan_end (bad_tone a.limit a.tones.now) l.t _ c.loop-t-test.false in
     sym (ap (found (a.from + 16)) none ∙ found_past (a.from + 16) l.t c.loop-t-test.false)
+
+pub returns-clause-symbols : goal.returns-clause-symbols
+returns-clause-symbols c =
+    let l = c.loop-t in
+    let a = c.args in
+    let none = sym l.invariant.0 ∙ scan_end (bad_tone a.limit a.tones.now) l.t _ c.loop-t-test.false in
+    l.invariant.1 ∙ ap (seen_to a.tones.now) (sym none)

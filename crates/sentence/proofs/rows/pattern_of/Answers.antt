@@ -7,13 +7,13 @@ pub returns-then-from-number : goal.returns-then-from-number
 returns-then-from-number c =
     let l = c.loop-row in
     pattern_found c.args.rows.now c.args.number l.row-index l.invariant _ c.loop-row-test.true
-    (sym (c.from.ensures ∙ c.number.ensures) ∙ c.if-from-number.true)
+    (sym c.from.ensures ∙ c.if-from-number.true)
 
 pub loop-row-preserved : goal.loop-row-preserved
 loop-row-preserved c =
     let l = c.loop-row in
     pattern_later c.args.rows.now c.args.number l.row-index l.invariant _ c.loop-row-test.true
-    (λ e. c.if-from-number.false (c.from.ensures ∙ c.number.ensures ∙ e))
+    (λ e. c.if-from-number.false (c.from.ensures ∙ e))
 
 pub returns : goal.returns
 returns c =
